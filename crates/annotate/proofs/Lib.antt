@@ -1,0 +1,3 @@
+pub mod FieldSizes
+pub mod Adding
+pub mod Totals

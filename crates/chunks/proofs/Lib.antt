@@ -1,0 +1,6 @@
+pub mod Numbers
+pub mod Grown
+pub mod Bits
+pub mod Codes
+pub mod Advances
+pub mod Within

@@ -1,0 +1,214 @@
+-- Computed tests of the definitions: P1 to P13 of document 01, as one table checked by one fact, and a second table with a case for every other
+-- refusal and for each fault that document 01 names. What is expected stands in document 01 or was printed by the Rust.
+-- Assumes nothing.
+use mathlib.Core.Path.{_≡_, refl}
+use mathlib.Core.Bool.{Bool, true, false, _&&_}
+use mathlib.Core.List.{List, [], _∷_, _++_}
+use Prim.Native.Nat.{ℕ, zero, suc, _*_, _^_}
+use Prim.Native.String.{String}
+use lib.Dec.{eqb}
+use lib.ListN.{replicate, drop}
+use Rattle.definitions.specs.Bytes.{Text, text, same, all}
+use Rattle.definitions.specs.Answer.{Lowered, lower, word, bufferAfter}
+use Rattle.definitions.proofs.Opened.{everything}
+
+-- ---- records
+
+-- the head of P1
+lite : Text
+lite = text "endian=little\ntarget=Lamp\narrays=lite\n"
+
+full : Text
+full = text "endian=little\ntarget=Lamp\narrays=full\n"
+
+-- a packet or struct without a parent, before its fields
+packet : String → Text
+packet name = text "decl=packet\nname=" ++ (text name ++ text "\nparent=-\n")
+
+struct : String → Text
+struct name = text "decl=struct\nname=" ++ (text name ++ text "\nparent=-\n")
+
+-- P1's head and the packet Lamp
+lamp : Text → Text
+lamp fields = lite ++ (packet "Lamp" ++ fields)
+
+-- the lines of a field without a condition
+plain : String → Text
+plain lines = text "field=" ++ (text lines ++ text "\nif=-\n")
+
+scalar : String → String → Text
+scalar id width = text "field=scalar\nid=" ++ (text id ++ (text "\nwidth=" ++ (text width ++ text "\nif=-\n")))
+
+payload : Text
+payload = plain "payload\nmod=-"
+
+-- a field `c` of 8 bits, and a scalar of 8 bits that is there where it is 1
+optional : Text
+optional = text "field=scalar\nid=o\nwidth=8\nif=c\nis=1\n"
+
+-- ---- tables
+
+pub record Case : Type 0 where
+  pub given : Text
+  pub expected : Lowered
+
+refuses : Text → ℕ → Case
+refuses rec n = record { given = rec; expected = record { answered = n; lines = [] } }
+
+prints : Text → String → Case
+prints rec lines = record { given = rec; expected = record { answered = 0; lines = text lines } }
+
+agrees : Lowered → Lowered → Bool
+agrees a b = eqb (a .answered) (b .answered) && same (a .lines) (b .lines)
+
+-- with the program's buffer of 65,536 bytes
+right : Case → Bool
+right c = agrees (lower (c .given) 65536) (c .expected)
+
+-- P1 to P13
+marked : List Case
+marked =
+    -- P1
+    prints (lamp (scalar "amps" "12" ++ (plain "reserved\nwidth=4" ++ payload)))
+    "if (span.size() < 2) {\n    return false;\n}\nuint16_t chunk0 = span.read_le<uint16_t, 2>();\namps_ = (chunk0 >> 0) & 0xfff;\npayload_ = span;\nspan.clear();\n"
+    -- P2: no fields
+    ∷ prints (lamp []) ""
+    -- P3: a skip behind a check of 2
+    ∷ prints (lamp (plain "reserved\nwidth=16"))
+    "if (span.size() < 2) {\n    return false;\n}\nspan.skip(2); // skip reserved fields\n"
+    -- P4: three octets in 32 bits
+    ∷ prints (lamp (scalar "x" "24")) "if (span.size() < 3) {\n    return false;\n}\nx_ = span.read_le<uint32_t, 3>();\n"
+    -- P5: 8 bytes
+    ∷ prints (lamp (scalar "a" "60" ++ scalar "b" "4"))
+    "if (span.size() < 8) {\n    return false;\n}\nuint64_t chunk0 = span.read_le<uint64_t, 8>();\na_ = (chunk0 >> 0) & 0xfffffffffffffff;\nb_ = (chunk0 >> 60) & 0xf;\n"
+    -- P6 and P7: more than 64 bits
+    ∷ refuses (lamp (scalar "a" "60" ++ scalar "b" "12")) 12
+    ∷ refuses (lamp (scalar "a" "60" ++ (scalar "b" "5" ++ scalar "c" "7"))) 12
+    -- P8: an open chunk at the end is dropped; P9: not where lines are pending
+    ∷ prints (lamp (scalar "a" "4")) ""
+    ∷ refuses (lamp (scalar "a" "8" ++ scalar "b" "4")) 10
+    -- P10: a typedef in an open chunk
+    ∷ refuses (lite ++ (struct "S" ++ (packet "Lamp" ++ (scalar "a" "4" ++ plain "typedef\nid=t\ntype=S")))) 11
+    ∷ refuses (lite ++ (struct "S" ++ (packet "Lamp" ++ (scalar "b" "8" ++ (scalar "a" "4" ++ plain "typedef\nid=t\ntype=S"))))) 10
+    -- P11: trailing 1 byte
+    ∷ prints (lamp (payload ++ scalar "x" "8"))
+    "if (span.size() < 1) return false;\npayload_ = span.subrange(0, span.size() - 1);\nspan.skip(span.size() - 1);\nif (span.size() < 1) {\n    return false;\n}\nx_ = span.read_le<uint8_t, 1>();\n"
+    -- P12: an optional field behind a payload, without and with a size
+    ∷ refuses (lamp (payload ++ optional)) 14
+    ∷ prints (lamp (plain "size\nof=_payload_\nwidth=8" ++ (payload ++ optional)))
+    "if (span.size() < 1) {\n    return false;\n}\npayload_size_ = span.read_le<uint8_t, 1>();\nif (span.size() < payload_size_) return false;\npayload_ = span.subrange(0, payload_size_);\nspan.skip(payload_size_);\nif (c == 1) {\n    if (span.size() < 1) {\n        return false;\n    }\n    o_ = span.read_le<uint8_t, 1>();\n}\n"
+    -- P13: trailing 2 bytes, not 8
+    ∷ prints (lamp (payload ++ (plain "array\nid=a\nwidth=8\ntype=-\nmod=-\ncount=2" ++ plain "padding\nbytes=8")))
+    "if (span.size() < 2) return false;\npayload_ = span.subrange(0, span.size() - 2);\nspan.skip(span.size() - 2);\nsize_t a_start_size = span.size();\nif (span.size() < 2) {\n    return false;\n}\na_ = span.subrange(0, 2);\nspan.skip(2);\nif (a_start_size - span.size() < 8) {\n    if (span.size() < 8 - (a_start_size - span.size())) return false;\n    span.skip(8 - (a_start_size - span.size()));\n}\n"
+    ∷ []
+
+marked-right : all right marked ≡ true
+unfolding everything lite full packet struct lamp plain scalar payload optional refuses prints agrees right marked
+marked-right = refl
+
+-- ---- the other refusals, on both sides of their limits, and the faults that document 01 names
+
+repeated : ℕ → Text → Text
+repeated zero t = []
+repeated (suc n) t = t ++ repeated n t
+
+-- `decl=enum` with its marks
+enum : String → String → Text
+enum width marks = text "decl=enum\nname=E\nwidth=" ++ (text width ++ (text "\n" ++ (text marks ++ text "\n")))
+
+-- an array of so many elements of a width, or of a type
+array : String → String → String → Text
+array width type count =
+    text "field=array\nid=v\nwidth="
+    ++ (text width ++ (text "\ntype=" ++ (text type ++ (text "\nmod=-\ncount=" ++ (text count ++ text "\nif=-\n")))))
+
+-- S has 32,768 bits, and 65,535 of them 2 ^ 31 - 32,768
+large : Text → Text
+large fields = lite ++ (struct "S" ++ (array "8" "-" "4096" ++ (packet "Lamp" ++ (array "-" "S" "65535" ++ fields))))
+
+-- full mode, and an enum E of 8 bits that is complete
+inFull : Text → Text
+inFull fields = full ++ (enum "8" "open=0\ncomplete=1" ++ (packet "Lamp" ++ fields))
+
+others : List Case
+others =
+    -- 1: nothing, and one byte too many; 16,384 bytes are read
+    refuses [] 1
+    ∷ refuses (replicate 16385 97) 1
+    ∷ refuses (replicate 16384 97) 2
+    -- 2: the last newline, an empty line, a leading zero, 2 ^ 64, two names that the lines use, and one that they do not
+    ∷ refuses (text "endian=little\ntarget=Lamp\narrays=lite\ndecl=packet\nname=Lamp\nparent=-") 2
+    ∷ refuses (lamp (text "\n")) 2
+    ∷ refuses (lamp (scalar "a" "08")) 2
+    ∷ refuses (lamp (scalar "a" "18446744073709551616")) 2
+    ∷ refuses (lamp (scalar "span" "8")) 2
+    ∷ refuses (lamp (scalar "chunk7" "8")) 2
+    ∷ prints (lamp (scalar "chunk" "4")) ""
+    -- 2 is judged behind the 65th field too
+    ∷ refuses (lamp (repeated 65 (plain "body") ++ text "field=group\n")) 2
+    -- 3: 33 declarations, 65 fields; 32 and 64 are read
+    ∷ refuses (lite ++ repeated 33 (packet "Lamp")) 3
+    ∷ refuses (lite ++ repeated 32 (packet "Lamp")) 4
+    ∷ refuses (lamp (repeated 65 (plain "body"))) 3
+    ∷ refuses (lamp (repeated 64 (plain "body"))) 14
+    -- 4
+    ∷ refuses (lite ++ (struct "S" ++ (packet "Lamp" ++ packet "S"))) 4
+    -- 5: a type that comes later, a parent that is an enum, a fixed enum of a struct
+    ∷ refuses (lamp (plain "typedef\nid=t\ntype=S" ++ struct "S")) 5
+    ∷ refuses (lite ++ (enum "8" "open=0\ncomplete=0" ++ text "decl=packet\nname=Lamp\nparent=E\n")) 5
+    ∷ refuses (lite ++ (struct "S" ++ (packet "Lamp" ++ plain "fixedenum\ntype=S\ntag=t"))) 5
+    -- 6
+    ∷ refuses (lamp (scalar "a" "0")) 6
+    ∷ refuses (lamp (scalar "a" "65")) 6
+    ∷ refuses (lamp (array "8" "-" "65536")) 6
+    -- 7: 2 ^ 31 bits, and one less
+    ∷ refuses (large (array "8" "-" "4096")) 7
+    ∷ prints (large (array "8" "-" "4095" ++ scalar "a" "7"))
+    "if (span.size() < 268431360) {\n    return false;\n}\nv_ = span.subrange(0, 268431360);\nspan.skip(268431360);\nif (span.size() < 4095) {\n    return false;\n}\nv_ = span.subrange(0, 4095);\nspan.skip(4095);\n"
+    -- 8: elements of 12 bits and of none, an optional scalar and an optional enum of 12 bits
+    ∷ refuses (lamp (array "12" "-" "2")) 8
+    ∷ refuses (lite ++ (struct "S" ++ (packet "Lamp" ++ array "-" "S" "2"))) 8
+    ∷ refuses (lamp (text "field=scalar\nid=o\nwidth=12\nif=c\nis=1\n")) 8
+    ∷ refuses (lite ++ (enum "12" "open=0\ncomplete=0" ++ (packet "Lamp" ++ text "field=typedef\nid=o\ntype=E\nif=c\nis=1\n"))) 8
+    -- 9: an enum, and no declaration at all
+    ∷ refuses (text "endian=little\ntarget=E\narrays=lite\n" ++ enum "8" "open=0\ncomplete=0") 9
+    ∷ refuses (text "endian=little\ntarget=T\narrays=lite\n" ++ packet "Lamp") 9
+    -- 13
+    ∷ refuses (lamp (text "field=payload\nmod=-\nif=c\nis=1\n")) 13
+    -- a dropped chunk is not counted in the check
+    ∷ prints (lamp (array "8" "-" "2" ++ scalar "a" "4")) "if (span.size() < 2) {\n    return false;\n}\nv_ = span.subrange(0, 2);\nspan.skip(2);\n"
+    -- an array inside an open chunk with nothing pending, and the chunk goes on
+    ∷ prints (lamp (scalar "a" "4" ++ (array "8" "-" "2" ++ scalar "b" "4")))
+    "if (span.size() < 2) {\n    return false;\n}\nv_ = span.subrange(0, 2);\nspan.skip(2);\nif (span.size() < 1) {\n    return false;\n}\nuint8_t chunk0 = span.read_le<uint8_t, 1>();\na_ = (chunk0 >> 0) & 0xf;\nb_ = (chunk0 >> 4) & 0xf;\n"
+    -- the chunk's number goes on behind a flush
+    ∷ prints (lamp (scalar "a" "4" ++ (scalar "b" "4" ++ (array "8" "-" "2" ++ (scalar "c" "4" ++ scalar "d" "4")))))
+    "if (span.size() < 1) {\n    return false;\n}\nuint8_t chunk0 = span.read_le<uint8_t, 1>();\na_ = (chunk0 >> 0) & 0xf;\nb_ = (chunk0 >> 4) & 0xf;\nif (span.size() < 2) {\n    return false;\n}\nv_ = span.subrange(0, 2);\nspan.skip(2);\nif (span.size() < 1) {\n    return false;\n}\nuint8_t chunk1 = span.read_le<uint8_t, 1>();\nc_ = (chunk1 >> 0) & 0xf;\nd_ = (chunk1 >> 4) & 0xf;\n"
+    -- `complete` spares `IsValid` for a bit field, and not in an array
+    ∷ prints (inFull (plain "typedef\nid=e\ntype=E" ++ array "-" "E" "2"))
+    "if (span.size() < 1) {\n    return false;\n}\noutput->e_ = E(span.read_le<uint8_t, 1>());\nif (span.size() < 2) {\n    return false;\n}\nfor (size_t n = 0; n < 2; n++) {\n    auto raw_value = span.read_le<uint8_t, 1>();\n    if (!IsValidE(raw_value)) {\n        return false;\n    }\n    output->v_[n] = E(raw_value);\n}\n"
+    ∷ []
+
+others-right : all right others ≡ true
+unfolding everything lite full packet struct lamp plain scalar refuses prints agrees right repeated enum array large inFull others
+others-right = refl
+
+-- ---- 15, the word and the buffer: P3 has 81 bytes
+
+skips : Text
+skips = lamp (plain "reserved\nwidth=16")
+
+exact : word (lower skips 81) ≡ 81
+unfolding everything lite packet lamp plain skips
+exact = refl
+
+short : word (lower skips 80) ≡ 15 * 2 ^ 32
+unfolding everything lite packet lamp plain skips
+short = refl
+
+behind : drop 79 (bufferAfter (lower skips 84) (replicate 84 7)) ≡ text "s\n" ++ (7 ∷ 7 ∷ 7 ∷ [])
+unfolding everything lite packet lamp plain skips
+behind = refl
+
+untouched : bufferAfter (lower skips 80) (replicate 80 7) ≡ replicate 80 7
+unfolding everything lite packet lamp plain skips
+untouched = refl

@@ -1,0 +1,9 @@
+pub mod Bytes
+pub mod Record
+pub mod Sizes
+pub mod Refusals
+pub mod Lines
+pub mod Blocks
+pub mod FieldParser
+pub mod Answer
+pub mod Tables

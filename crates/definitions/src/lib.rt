@@ -1,0 +1,257 @@
+// The types that the definitions and the code share, by value: those of ast.rs, the sizes of analyzer.rs, what the record's reader finds
+// at a place, and the refusals of document 01. What must be believed about the answer stands in specs/, in the order of document 01:
+// Bytes, Record, Sizes, Refusals, Lines, Blocks, FieldParser, Answer. (Tables says what the code's tables of places hold.)
+
+// ---- ast.rs: a name is a part of the record and is not copied; what may be absent is an enum of its own
+
+// The bytes of the record from start up to end.
+pub struct Part {
+    pub start: usize,
+    pub end: usize,
+}
+
+pub enum MaybePart {
+    None,
+    Some(Part),
+}
+
+pub enum MaybeNumber {
+    None,
+    Some(u64),
+}
+
+// `size_modifier`: a sign and a number.
+pub enum Modifier {
+    None,
+    Plus(u64),
+    Minus(u64),
+}
+
+pub enum EndiannessValue {
+    LittleEndian,
+    BigEndian,
+}
+
+// `extract_arrays`: lite is false and has an empty target prefix, full is true and has `output->`.
+pub enum Arrays {
+    Lite,
+    Full,
+}
+
+pub struct Head {
+    pub endianness: EndiannessValue,
+    pub target: Part,
+    pub arrays: Arrays,
+}
+
+pub enum FieldDesc {
+    Checksum {
+        field_id: Part,
+    },
+    Padding {
+        size: u64,
+    },
+    Size {
+        field_id: Part,
+        width: u64,
+    },
+    Count {
+        field_id: Part,
+        width: u64,
+    },
+    ElementSize {
+        field_id: Part,
+        width: u64,
+    },
+    Body,
+    Payload {
+        size_modifier: Modifier,
+    },
+    FixedScalar {
+        width: u64,
+        value: u64,
+    },
+    FixedEnum {
+        enum_id: Part,
+        tag_id: Part,
+    },
+    Reserved {
+        width: u64,
+    },
+    Array {
+        id: Part,
+        width: MaybeNumber,
+        type_id: MaybePart,
+        size_modifier: Modifier,
+        size: MaybeNumber,
+    },
+    Scalar {
+        id: Part,
+        width: u64,
+    },
+    Flag {
+        id: Part,
+    },
+    Typedef {
+        id: Part,
+        type_id: Part,
+    },
+}
+
+// `if` and `is`.
+pub enum Cond {
+    None,
+    Some { id: Part, value: u64 },
+}
+
+// The key of a field is its place in the record.
+pub struct Field {
+    pub key: usize,
+    pub desc: FieldDesc,
+    pub cond: Cond,
+}
+
+// The marks of an enum stand for `is_open_enum` and `is_complete_enum` of the `common` module.
+pub enum DeclDesc {
+    Checksum {
+        width: u64,
+    },
+    CustomField {
+        width: MaybeNumber,
+    },
+    Enum {
+        width: u64,
+        open: bool,
+        complete: bool,
+    },
+    Packet {
+        parent_id: MaybePart,
+    },
+    Struct {
+        parent_id: MaybePart,
+    },
+}
+
+// The key of a declaration is its place in the record.
+pub struct Decl {
+    pub key: usize,
+    pub id: Part,
+    pub desc: DeclDesc,
+}
+
+// ---- analyzer.rs
+
+pub enum Size {
+    Static(u64),
+    Dynamic,
+    Unknown,
+}
+
+pub enum ElementSize {
+    Static(u64),
+    Dynamic,
+    Unknown,
+}
+
+pub enum ArraySize {
+    StaticCount(u64),
+    DynamicCount,
+    DynamicSize,
+    Unknown,
+}
+
+// What a size, count or element size field names: its `field_id`, and a size field's width.
+pub enum Reference {
+    None,
+    Size { field_id: Part, width: u64 },
+    Count { field_id: Part },
+    ElementSize { field_id: Part },
+}
+
+// ---- why a record is turned back: the refusals of document 01, in its order. 10 to 14 are the panics of cxx.rs
+
+pub enum Refusal {
+    RecordLength,
+    RecordForm,
+    TooMany,
+    DuplicateName,
+    UnknownName,
+    OutOfRange,
+    TooLarge,
+    NotWholeBytes,
+    NoTarget,
+    OpenChunk,
+    OctetBoundary,
+    ScalarTooWide,
+    UnsupportedOptional,
+    MultipleUnknown,
+    NoRoom,
+}
+
+// What a test over the whole record comes to.
+pub enum Verdict {
+    Pass,
+    Refuse(Refusal),
+}
+
+// ---- what stands at a place of the record, and the place behind its newline
+
+pub enum Found {
+    At(usize),
+    Nothing,
+}
+
+pub enum NumberRead {
+    Is(u64, usize),
+    Wrong,
+}
+
+pub enum NameRead {
+    Is(Part, usize),
+    Wrong,
+}
+
+pub enum BitRead {
+    Is(bool, usize),
+    Wrong,
+}
+
+pub enum ModifierRead {
+    Is(Modifier, usize),
+    Wrong,
+}
+
+pub enum MaybeNumberRead {
+    Is(MaybeNumber, usize),
+    Wrong,
+}
+
+pub enum MaybePartRead {
+    Is(MaybePart, usize),
+    Wrong,
+}
+
+pub enum DescRead {
+    Is(FieldDesc, usize),
+    Wrong,
+}
+
+pub enum CondRead {
+    Is(Cond, usize),
+    Wrong,
+}
+
+pub enum FieldRead {
+    Is(Field, usize),
+    Wrong,
+}
+
+pub enum HeadRead {
+    Is(Head, usize),
+    Wrong,
+}
+
+pub enum DeclRead {
+    Is(Decl, usize),
+    Wrong,
+}

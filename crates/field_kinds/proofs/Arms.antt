@@ -1,0 +1,82 @@
+-- What each condition, enum and kind of field gives.
+-- Assumes nothing.
+use Prim.Native.Nat.{ℕ}
+use mathlib.Core.Bool.{Bool, true, false, _||_}
+use mathlib.Core.List.{List}
+use mathlib.Core.Path.{_≡_, refl, sym, ap, _∙_}
+use Rattle.definitions.specs.Bytes.{Text, pick}
+use Rattle.definitions.specs.Sizes.{Row, sameName, enumOf}
+use Rattle.definitions.specs.FieldParser.{isCondOf}
+use Rattle.definitions.specs.declared.Cond.{Cond}
+use Rattle.definitions.specs.declared.Field.{Field}
+use Rattle.definitions.specs.declared.FieldDesc.{FieldDesc}
+use Rattle.definitions.specs.declared.Part.{Part}
+use Rattle.definitions.specs.Tables.{rowsFrom}
+use Rattle.names.specs.Written.{fieldName}
+use Rattle.names.specs.declared.WrittenName.{WrittenName}
+use Rattle.rows.specs.Enums.{enumType}
+use Rattle.rows.specs.declared.EnumType.{EnumType}
+use Rattle.bit_fields.specs.declared.KindAt.{KindAt}
+use Rattle.bit_fields.specs.declared.End.{End}
+use Rattle.field_kinds.specs.KindOf.{isCondIn, memberKind, scalarKind, enumKind, kindAt}
+
+pub cond-as : (s : Text) (id : Part) {d c : Cond} {b : Bool} → d ≡ c → b ≡ isCondOf s id c → b ≡ isCondOf s id d
+cond-as s id e h = h ∙ ap (isCondOf s id) (sym e)
+
+module _ (s : Text) (fs : List Field) (id : Part) {b : Bool} (e : b ≡ isCondIn s fs id) where
+  pub scalar-condition : b ≡ true → KindAt.Condition id ≡ scalarKind s fs id
+  unfolding scalarKind
+  scalar-condition h = ap (λ (b : Bool). pick b (KindAt.Condition id) (memberKind id)) (sym h ∙ e)
+
+  pub scalar-member : b ≡ false → memberKind id ≡ scalarKind s fs id
+  unfolding scalarKind
+  scalar-member h = ap (λ (b : Bool). pick b (KindAt.Condition id) (memberKind id)) (sym h ∙ e)
+
+module _ (id type : Part) {e : EnumType} where
+  pub no-enum : e ≡ EnumType.None → memberKind id ≡ enumKind id type e
+  unfolding enumKind
+  no-enum h = ap (enumKind id type) (sym h)
+
+  module _ {width : _} {isOpen isComplete : Bool} (h : e ≡ EnumType.Enum width isOpen isComplete) where
+    picked : pick (isOpen || isComplete) (KindAt.OpenEnum id type) (KindAt.ClosedEnum id type) ≡ enumKind id type e
+    unfolding enumKind
+    picked = ap (enumKind id type) (sym h)
+
+    pub open-enum : isOpen ≡ true → KindAt.OpenEnum id type ≡ enumKind id type e
+    open-enum o = ap (λ (b : Bool). pick (b || isComplete) (KindAt.OpenEnum id type) (KindAt.ClosedEnum id type)) (sym o) ∙ picked
+
+    module _ (o : isOpen ≡ false) where
+      pub complete-enum : isComplete ≡ true → KindAt.OpenEnum id type ≡ enumKind id type e
+      complete-enum k =
+          ap (λ (b : Bool). pick b (KindAt.OpenEnum id type) (KindAt.ClosedEnum id type)) (sym k ∙ ap (λ (b : Bool). b || isComplete) (sym o)) ∙ picked
+
+      pub closed-enum : isComplete ≡ false → KindAt.ClosedEnum id type ≡ enumKind id type e
+      closed-enum k =
+          ap (λ (b : Bool). pick b (KindAt.OpenEnum id type) (KindAt.ClosedEnum id type)) (sym k ∙ ap (λ (b : Bool). b || isComplete) (sym o)) ∙ picked
+
+-- the rows of any size tables; `d` is the field's kind
+module _ (s p : Text) (fs : List Field) (n : ℕ) {d : FieldDesc} where
+  pub kind-as : {c : FieldDesc} {r : KindAt} → d ≡ c → ((own par pay : List ℕ) → r ≡ kindAt s (rowsFrom s p own par pay 0 n) fs c)
+      → (own par pay : List ℕ) → r ≡ kindAt s (rowsFrom s p own par pay 0 n) fs d
+  kind-as e h own par pay = h own par pay ∙ ap (kindAt s (rowsFrom s p own par pay 0 n) fs) (sym e)
+
+  pub kind-size : {of : Part} {width : ℕ} → d ≡ FieldDesc.Size of width → {name : WrittenName} → name ≡ fieldName s of
+      → (own par pay : List ℕ) → KindAt.Number name End.Size ≡ kindAt s (rowsFrom s p own par pay 0 n) fs d
+  unfolding kindAt
+  kind-size e h = kind-as e (λ own par pay. ap (λ (x : WrittenName). KindAt.Number x End.Size) h)
+
+  pub kind-element-size : {of : Part} {width : ℕ} → d ≡ FieldDesc.ElementSize of width → {name : WrittenName} → name ≡ fieldName s of
+      → (own par pay : List ℕ) → KindAt.Number name End.ElementSize ≡ kindAt s (rowsFrom s p own par pay 0 n) fs d
+  unfolding kindAt
+  kind-element-size e h = kind-as e (λ own par pay. ap (λ (x : WrittenName). KindAt.Number x End.ElementSize) h)
+
+  pub kind-scalar : {id : Part} {width : ℕ} → d ≡ FieldDesc.Scalar id width → {r : KindAt} → r ≡ scalarKind s fs id
+      → (own par pay : List ℕ) → r ≡ kindAt s (rowsFrom s p own par pay 0 n) fs d
+  unfolding kindAt
+  kind-scalar e h = kind-as e (λ own par pay. h)
+
+  pub kind-typedef : {id type : Part} → d ≡ FieldDesc.Typedef id type → {e : EnumType}
+      → ((own par pay : List ℕ) → e ≡ enumType (enumOf s (rowsFrom s p own par pay 0 n) type)) → {r : KindAt} → r ≡ enumKind id type e
+      → (own par pay : List ℕ) → r ≡ kindAt s (rowsFrom s p own par pay 0 n) fs d
+  unfolding kindAt
+  kind-typedef {id} {type} e h k = kind-as e (λ own par pay. k ∙ ap (enumKind id type) (h own par pay))

@@ -1,0 +1,3 @@
+pub mod Agree
+pub mod Arms
+pub mod Turns

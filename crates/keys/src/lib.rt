@@ -1,0 +1,114 @@
+// The lines `key=value` of the record (document 01, 'The record'): a key with its `=`, a value, and its newline. `-` is absent.
+
+use definitions::BitRead;
+use definitions::Found;
+use definitions::MaybeNumber;
+use definitions::MaybeNumberRead;
+use definitions::MaybePart;
+use definitions::MaybePartRead;
+use definitions::Modifier;
+use definitions::ModifierRead;
+use definitions::NameRead;
+use definitions::NumberRead;
+ghost use mathlib.Core.Path.{_≡_};
+ghost use Rattle.definitions.specs.Record.{numberLine, nameLine, bitLine, maybeNumberLine, maybeNameLine, modifierAt, modifierLine};
+
+// `key=NUMBER`.
+pub fn number_line(rec: &[u8], at: usize, key: &[u8]) -> NumberRead
+    ensures { λ r. ⌜ r ≡ numberLine (now (rec .entry)) at (now (key .entry)) ⌝ }
+{
+    let Found::At(p) = names::key_at(rec, at, key) else {
+        return NumberRead::Wrong;
+    };
+    names::number_at(rec, p)
+}
+
+// `key=NAME`.
+pub fn name_line(rec: &[u8], at: usize, key: &[u8]) -> NameRead
+    ensures { λ r. ⌜ r ≡ nameLine (now (rec .entry)) at (now (key .entry)) ⌝ }
+{
+    let Found::At(p) = names::key_at(rec, at, key) else {
+        return NameRead::Wrong;
+    };
+    names::name_at(rec, p)
+}
+
+// `key=0` or `key=1`.
+pub fn bit_line(rec: &[u8], at: usize, key: &[u8]) -> BitRead
+    ensures { λ r. ⌜ r ≡ bitLine (now (rec .entry)) at (now (key .entry)) ⌝ }
+{
+    let Found::At(p) = names::key_at(rec, at, key) else {
+        return BitRead::Wrong;
+    };
+    if let Found::At(q) = names::key_at(rec, p, b"0\n") {
+        return BitRead::Is(false, q);
+    }
+    let Found::At(q) = names::key_at(rec, p, b"1\n") else {
+        return BitRead::Wrong;
+    };
+    BitRead::Is(true, q)
+}
+
+// `key=NUMBER` or `key=-`.
+pub fn maybe_number_line(rec: &[u8], at: usize, key: &[u8]) -> MaybeNumberRead
+    ensures { λ r. ⌜ r ≡ maybeNumberLine (now (rec .entry)) at (now (key .entry)) ⌝ }
+{
+    let Found::At(p) = names::key_at(rec, at, key) else {
+        return MaybeNumberRead::Wrong;
+    };
+    if let Found::At(q) = names::key_at(rec, p, b"-\n") {
+        return MaybeNumberRead::Is(MaybeNumber::None, q);
+    }
+    let NumberRead::Is(n, q) = names::number_at(rec, p) else {
+        return MaybeNumberRead::Wrong;
+    };
+    MaybeNumberRead::Is(MaybeNumber::Some(n), q)
+}
+
+// `key=NAME` or `key=-`.
+pub fn maybe_name_line(rec: &[u8], at: usize, key: &[u8]) -> MaybePartRead
+    ensures { λ r. ⌜ r ≡ maybeNameLine (now (rec .entry)) at (now (key .entry)) ⌝ }
+{
+    let Found::At(p) = names::key_at(rec, at, key) else {
+        return MaybePartRead::Wrong;
+    };
+    if let Found::At(q) = names::key_at(rec, p, b"-\n") {
+        return MaybePartRead::Is(MaybePart::None, q);
+    }
+    let NameRead::Is(n, q) = names::name_at(rec, p) else {
+        return MaybePartRead::Wrong;
+    };
+    MaybePartRead::Is(MaybePart::Some(n), q)
+}
+
+// `-`, or a sign and a number.
+fn modifier_at(rec: &[u8], at: usize) -> ModifierRead
+    ensures { λ r. ⌜ r ≡ modifierAt (now (rec .entry)) at ⌝ }
+{
+    if let Found::At(p) = names::key_at(rec, at, b"-\n") {
+        return ModifierRead::Is(Modifier::None, p);
+    }
+    if let Found::At(p) = names::key_at(rec, at, b"-") {
+        let NumberRead::Is(n, q) = names::number_at(rec, p) else {
+            return ModifierRead::Wrong;
+        };
+        return ModifierRead::Is(Modifier::Minus(n), q);
+    }
+    if let Found::At(p) = names::key_at(rec, at, b"+") {
+        let NumberRead::Is(n, q) = names::number_at(rec, p) else {
+            return ModifierRead::Wrong;
+        };
+        return ModifierRead::Is(Modifier::Plus(n), q);
+    }
+    ModifierRead::Wrong
+}
+
+// `key=-`, `key=+NUMBER` or `key=-NUMBER`.
+pub fn modifier_line(rec: &[u8], at: usize, key: &[u8]) -> ModifierRead
+    ensures { λ r. ⌜ r ≡ modifierLine (now (rec .entry)) at (now (key .entry)) ⌝ }
+{
+    let Found::At(p) = names::key_at(rec, at, key) else {
+        return ModifierRead::Wrong;
+    };
+    modifier_at(rec, p)
+}

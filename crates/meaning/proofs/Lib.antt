@@ -1,0 +1,27 @@
+-- Demands is to be read first; the others follow from the statements down. What each holds is said in its first lines.
+pub mod Demands
+pub mod Cases
+pub mod Products
+pub mod Backing
+pub mod Printed
+pub mod Reaching
+pub mod Located
+pub mod Grouped
+pub mod Accepted
+pub mod Entries
+pub mod ChunkNames
+pub mod Values
+pub mod FieldBits
+pub mod Whole
+pub mod Frame
+pub mod Passing
+pub mod Steps
+pub mod Safe
+pub mod Arrays
+pub mod Pieces
+pub mod Moves
+pub mod Wellformed
+pub mod Items
+pub mod Names
+pub mod Wp
+pub mod Impossible

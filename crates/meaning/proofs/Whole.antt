@@ -1,0 +1,116 @@
+-- From the whole program to one of its blocks: a run that has come behind a block's first line stood before it.
+-- Assumes nothing.
+use mathlib.Core.Path.{_≡_, refl, sym, ap, _∙_, subst}
+use mathlib.Core.List.{List, [], _∷_, _++_, append-assoc}
+use Prim.Native.Nat.{ℕ, _≤_}
+use lib.ListN.{length}
+use Rattle.definitions.specs.Bytes.{Text}
+use Rattle.definitions.specs.Lines.{Expr, Stmt}
+use Rattle.definitions.specs.Blocks.{span, checkSize, chunksLines, Elem, Array, body, byMode, parseArrayFieldLite, parseArrayFieldFull, fieldLines, Block, blockLines, program}
+use Rattle.definitions.specs.declared.Arrays.{Arrays}
+use Rattle.definitions.specs.declared.Modifier.{Modifier}
+use Rattle.definitions.specs.declared.ElementSize.{ElementSize}
+use Rattle.definitions.specs.declared.ArraySize.{ArraySize}
+use Rattle.meaning.specs.Machine.{Inside, Answer, State, start, running, run}
+use Rattle.meaning.proofs.Wellformed.{BlockOk, BlocksOk}
+use Rattle.meaning.specs.Rule.{Octets}
+use Rattle.meaning.proofs.Frame.{inside}
+use Rattle.meaning.proofs.Steps.{body-before}
+use Rattle.meaning.proofs.Passing.{Through, through}
+
+abbrev Ahead : List Stmt → List Stmt → Type 0
+Ahead l all = (a : List Stmt) × (all ≡ a ++ l)
+
+-- the lines of an array stand before those that follow
+lite-before : (id type : Text) (elem : Elem) (l : List Stmt) (e : ElementSize) (n : ArraySize) → parseArrayFieldLite id type elem l e n ≡ parseArrayFieldLite id type elem [] e n ++ l
+lite-before id type elem l (ElementSize.Static z) (ArraySize.StaticCount n) = refl
+lite-before id type elem l (ElementSize.Static z) ArraySize.DynamicCount = refl
+lite-before id type elem l (ElementSize.Static z) ArraySize.DynamicSize = refl
+lite-before id type elem l (ElementSize.Static z) ArraySize.Unknown = refl
+lite-before id type elem l ElementSize.Dynamic (ArraySize.StaticCount n) = refl
+lite-before id type elem l ElementSize.Dynamic ArraySize.DynamicCount = refl
+lite-before id type elem l ElementSize.Dynamic ArraySize.DynamicSize = refl
+lite-before id type elem l ElementSize.Dynamic ArraySize.Unknown = refl
+lite-before id type elem l ElementSize.Unknown (ArraySize.StaticCount n) = refl
+lite-before id type elem l ElementSize.Unknown ArraySize.DynamicCount = refl
+lite-before id type elem l ElementSize.Unknown ArraySize.DynamicSize = refl
+lite-before id type elem l ElementSize.Unknown ArraySize.Unknown = refl
+
+full-before : (id type : Text) (elem : Elem) (l : List Stmt) (e : ElementSize) (n : ArraySize) → parseArrayFieldFull id type elem l e n ≡ parseArrayFieldFull id type elem [] e n ++ l
+full-before id type elem l (ElementSize.Static z) (ArraySize.StaticCount n) = refl
+full-before id type elem l (ElementSize.Static z) ArraySize.DynamicCount = refl
+full-before id type elem l (ElementSize.Static z) ArraySize.DynamicSize = refl
+full-before id type elem l (ElementSize.Static z) ArraySize.Unknown = refl
+full-before id type elem l ElementSize.Dynamic (ArraySize.StaticCount n) = refl
+full-before id type elem l ElementSize.Dynamic ArraySize.DynamicCount = refl
+full-before id type elem l ElementSize.Dynamic ArraySize.DynamicSize = refl
+full-before id type elem l ElementSize.Dynamic ArraySize.Unknown = refl
+full-before id type elem l ElementSize.Unknown (ArraySize.StaticCount n) = refl
+full-before id type elem l ElementSize.Unknown ArraySize.DynamicCount = refl
+full-before id type elem l ElementSize.Unknown ArraySize.DynamicSize = refl
+full-before id type elem l ElementSize.Unknown ArraySize.Unknown = refl
+
+array-ahead : (m : Arrays) (id T : Text) (E : Elem) (l : List Stmt) (e : ElementSize) (n : ArraySize) → Ahead l (byMode m id T E l e n)
+array-ahead Arrays.Lite id T E l e n = (parseArrayFieldLite id T E [] e n, lite-before id T E l e n)
+array-ahead Arrays.Full id T E l e n = (parseArrayFieldFull id T E [] e n, full-before id T E l e n)
+
+more-ahead : (s : Stmt) (l all : List Stmt) → Ahead l all → Ahead l (s ∷ all)
+more-ahead s l all h = (s ∷ h .0, ap (λ (r : List Stmt). s ∷ r) (h .1))
+
+field-ahead : (m : Modifier) (w : ℕ) (a : Array) (l : List Stmt) → Ahead l (fieldLines m w a l)
+field-ahead Modifier.None w a l = array-ahead (a .mode) (a .id) (a .type) (a .elem) l (a .elementSize) (a .arraySize)
+field-ahead (Modifier.Plus n) w a l = more-ahead _ l _ (array-ahead (a .mode) (a .id) (a .type) (a .elem) l (a .elementSize) (a .arraySize))
+field-ahead (Modifier.Minus n) w a l = more-ahead _ l _ (array-ahead (a .mode) (a .id) (a .type) (a .elem) l (a .elementSize) (a .arraySize))
+
+deeper : (s : Stmt) (l all : List Stmt) → Ahead (s ∷ l) all → Ahead l all
+deeper s l all h = (h .0 ++ (s ∷ []), h .1 ∙ sym (append-assoc (h .0) (s ∷ []) l))
+
+block-ahead : (b : Block) (l : List Stmt) → Ahead l (blockLines b l)
+block-ahead (Block.checked order n cs) l = (body (checkSize (Expr.lit n) ∷ chunksLines order cs) [], body-before (checkSize (Expr.lit n) ∷ chunksLines order cs) l)
+block-ahead (Block.sizedPayload x s m) l = (blockLines (Block.sizedPayload x s m) [], refl)
+block-ahead (Block.payloadUpTo x n) l = (blockLines (Block.payloadUpTo x n) [], refl)
+block-ahead (Block.payloadToEnd x) l = (blockLines (Block.payloadToEnd x) [], refl)
+block-ahead (Block.array m w a) l = field-ahead m w a l
+block-ahead (Block.paddedArray p m w a) l = more-ahead _ l _ (deeper _ l _ (field-ahead m w a _))
+block-ahead (Block.optionalScalar c v order w x) l = (blockLines (Block.optionalScalar c v order w x) [], refl)
+block-ahead (Block.optionalOpen c v order w x type) l = (blockLines (Block.optionalOpen c v order w x type) [], refl)
+block-ahead (Block.optionalClosed c v order w x type) l = (blockLines (Block.optionalClosed c v order w x type) [], refl)
+block-ahead (Block.optionalNested c v x type) l = (blockLines (Block.optionalNested c v x type) [], refl)
+block-ahead (Block.nested type x) l = (blockLines (Block.nested type x) [], refl)
+block-ahead (Block.nestedUpTo id n type x) l = (blockLines (Block.nestedUpTo id n type x) [], refl)
+
+program-ahead : (pre bs : List Block) → Ahead (program bs) (program (pre ++ bs))
+program-ahead [] bs = ([], refl)
+program-ahead (b ∷ pre) bs =
+    let h = program-ahead pre bs in
+    let k = block-ahead b (program (pre ++ bs)) in
+    (k .0 ++ h .0, k .1 ∙ ap (λ (r : List Stmt). k .0 ++ r) (h .1) ∙ sym (append-assoc (k .0) (h .0) (program bs)))
+
+-- a run of the program that has come to the first line of bs, or further, stood before it
+pub reach : (pre bs : List Block) (k : ℕ) (σ υ : State) (r : List Stmt) → run k σ (program (pre ++ bs)) ≡ running υ r → length r ≤ length (program bs)
+    → Through (program (pre ++ bs)) (program bs) σ k υ r
+reach pre bs k σ υ r e h =
+    let a = program-ahead pre bs in
+    subst (λ (all : List Stmt). Through all (program bs) σ k υ r) (sym (a .1))
+    (through k σ υ (a .0) (program bs) r (subst (λ (all : List Stmt). run k σ all ≡ running υ r) (a .1) e) h)
+
+pub block-ok : (pre : List Block) (b : Block) (post : List Block) → BlocksOk (pre ++ (b ∷ post)) → BlockOk b
+block-ok [] b post h = h .0
+block-ok (d ∷ pre) b post h = block-ok pre b post (h .1)
+
+-- ---- the bytes of a span are bytes of the frame
+
+octets-right : (a b : List ℕ) → Octets (a ++ b) → Octets b
+octets-right [] b h = h
+octets-right (x ∷ a) b h = octets-right a b (h .1)
+
+octets-left : (a b : List ℕ) → Octets (a ++ b) → Octets a
+octets-left [] b h = tt
+octets-left (x ∷ a) b h = (h .0, octets-left a b (h .1))
+
+pub octets-part : (f s : List ℕ) → Inside f s → Octets f → Octets s
+octets-part f s p h = octets-left s (p .1) (octets-right (p .0) (s ++ p .1) (subst Octets (sym (p .2)) h))
+
+pub octets-inside : (f : List ℕ) → Octets f → (vars : Text → ℕ) (answers : List Answer) (k : ℕ) (l r : List Stmt) (τ : State)
+    → run k (start f vars answers) l ≡ running τ r → Octets (τ .spans span)
+octets-inside f h vars answers k l r τ e = octets-part f (τ .spans span) (inside f vars answers k l r τ e span) h

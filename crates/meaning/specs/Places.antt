@@ -1,0 +1,110 @@
+-- Where a bit field of the target stands in a checked run, the lines ahead of it, its own and those behind, and what it holds behind its own.
+-- Assumes nothing.
+use mathlib.Core.Path.{_≡_}
+use mathlib.Core.Bool.{Bool, true, false}
+use mathlib.Core.List.{List, [], _∷_, _++_}
+use Prim.Native.Nat.{ℕ, _+_, _/_, _≤_}
+use lib.ListN.{take}
+use Rattle.definitions.specs.Bytes.{pick}
+use Rattle.definitions.specs.Lines.{Src, Before, Line, Stmt}
+use Rattle.definitions.specs.Blocks.{span, Kind, Chunk, getCxxScalarType, readOf, mask, isReserved, chunkName, kindLines, bitsLines, chunkLines, chunksLines, body, Block, program}
+use Rattle.definitions.specs.FieldParser.{Setting, kindOf}
+use Rattle.definitions.specs.declared.Field.{Field}
+use Rattle.meaning.specs.Machine.{State, Outcome, running, fetch, run}
+use Rattle.meaning.specs.Rule.{widthOf, bitsIn, groups, fieldValue}
+use Rattle.meaning.specs.Runs.{CheckedRun, behindRun, Passes, fieldsOf, fieldsIn, placed, placedAll}
+
+-- a bit field of the target in its group; not a reserved one, which gets no value
+pub record BitField (c : Setting) : Type 0 where
+  pub groupsBefore : List (List Field)
+  pub before : List Field
+  pub field : Field
+  pub after : List Field
+  pub groupsAfter : List (List Field)
+  pub groups-are : groups c ≡ groupsBefore ++ ((before ++ (field ∷ after)) ∷ groupsAfter)
+  pub has-value : isReserved (kindOf c (field .desc)) ≡ false
+
+-- its group
+abbrev pub groupOf : {c : Setting} → BitField c → List Field
+groupOf d = d .before ++ (d .field ∷ d .after)
+
+-- its chunk: that of its group, behind the chunks of the groups before
+pub record ChunkOf (bs : List Block) (c : Setting) (d : BitField c) : Type 0 where
+  pub inRun : CheckedRun bs
+  pub earlier : List Chunk
+  pub nr : ℕ
+  pub later : List Chunk
+  pub chunks-are : inRun .chunks ≡ earlier ++ (record { nr = nr; fields = placed c 0 (groupOf d) } ∷ later)
+  pub groups-ahead : fieldsIn (inRun .pre) ++ fieldsOf earlier ≡ placedAll c (d .groupsBefore)
+  pub order-is : inRun .order ≡ c .endianness
+
+-- the only field of its group
+abbrev pub alone : List Field → List Field → Bool
+alone [] [] = true
+alone [] (f ∷ fs) = false
+alone (f ∷ fs) [] = false
+alone (f ∷ fs) (g ∷ gs) = false
+
+module _ (bs : List Block) (c : Setting) (d : BitField c) (h : ChunkOf bs c d) where
+  -- the lines of its chunk and all that follow
+  abbrev pub atChunk : List Stmt
+  atChunk =
+      body (chunkLines (c .endianness) (h .nr) (placed c 0 (groupOf d)) ++ chunksLines (c .endianness) (h .later)) (behindRun (h .inRun))
+
+  -- those ahead of its own: the read of its chunk, and its group's fields before it
+  abbrev pub linesAhead : List Line
+  linesAhead =
+      pick (alone (d .before) (d .after)) []
+      (Line.set (Before.chunk (getCxxScalarType (bitsIn c (groupOf d)))) (chunkName (h .nr)) (readOf span (c .endianness) (bitsIn c (groupOf d)))
+      ∷ bitsLines (chunkName (h .nr)) (placed c 0 (d .before)))
+
+  -- where its first line takes its value from: alone it is read, else cut out of its chunk's variable
+  abbrev pub source : Src
+  source =
+      pick (alone (d .before) (d .after)) (readOf span (c .endianness) (bitsIn c (groupOf d)))
+      (Src.bits (chunkName (h .nr)) (bitsIn c (d .before)) (mask (widthOf c (d .field))))
+
+  -- its own lines: what is done with that value
+  abbrev pub ownLines : List Line
+  ownLines = kindLines source (kindOf c (d .field .desc))
+
+  -- the lines behind its own, and all that follow
+  abbrev pub behindField : List Stmt
+  behindField =
+      body
+      (bitsLines (chunkName (h .nr)) (placed c (bitsIn c (d .before) + widthOf c (d .field)) (d .after)) ++ chunksLines (c .endianness) (h .later))
+      (behindRun (h .inRun))
+
+  -- its own lines and all that follow
+  abbrev pub atField : List Stmt
+  atField = body ownLines behindField
+
+-- the value that the rule gives it, where these are the bytes of the span before its chunk is read: as many octets as its group fills are its group's
+abbrev pub ruled : (c : Setting) → BitField c → List ℕ → ℕ
+ruled c d bytes = fieldValue (c .endianness) (take (bitsIn c (groupOf d) / 8) bytes) (bitsIn c (d .before)) (widthOf c (d .field))
+
+-- behind the lines of a field of so many bits: its variable holds v; v is the fixed value. A condition of more than 8 bits is left out
+abbrev pub Holds : State → Kind → ℕ → ℕ → Type 0
+Holds σ (Kind.number x) width v = σ .vars x ≡ v
+Holds σ (Kind.condition x) width v = width ≤ 8 → σ .vars x ≡ v
+Holds σ (Kind.openEnum x type) width v = σ .vars x ≡ v
+Holds σ (Kind.closedEnum x type) width v = σ .vars x ≡ v
+Holds σ (Kind.fixedScalar n) width v = v ≡ n
+Holds σ (Kind.fixedEnum type tag) width v = Unit {0}
+Holds σ Kind.reserved width v = Unit {0}
+
+-- what the lines give the field in a run from the state σ that has come to it within k steps
+pub record Given (bs : List Block) (c : Setting) (d : BitField c) (h : ChunkOf bs c d) (σ : State) (k : ℕ) : Type 0 where
+  -- after so many steps the run stood before the lines of the field's chunk
+  pub steps : ℕ
+  pub within : steps ≤ k
+  pub found : State
+  pub stood : run steps σ (program bs) ≡ running found (atChunk bs c d h)
+  -- and passed those ahead of the field's own
+  pub at : State
+  pub passed : Passes (linesAhead bs c d h) (atField bs c d h) found at
+  -- there the first of its own takes the rule's value out of the octets in front of the span, to put it into a variable or to compare it
+  pub takes : (τ : State) × ((f : ℕ → State → Outcome) → fetch at (source bs c d h) f ≡ f (ruled c d (found .spans span)) τ)
+  -- and wherever its own lines are passed, it holds that value
+  pub holds : (τ : State) → Passes (ownLines bs c d h) (behindField bs c d h) at τ
+      → Holds τ (kindOf c (d .field .desc)) (widthOf c (d .field)) (ruled c d (found .spans span))

@@ -1,0 +1,87 @@
+-- The rule of the PDL language reference for bit fields: they are packed from the least significant bit on, up to the next octet boundary, and the
+-- octets so filled stand in the file's order. Written from the language: it knows no line, no shift and no mask of the generator.
+-- Assumes nothing.
+use mathlib.Core.Bool.{true, false}
+use mathlib.Core.List.{List, [], _∷_, _++_, reverse}
+use Prim.Native.Nat.{ℕ, zero, suc, _+_, _*_, _/_, _%_, _^_, _<_}
+use lib.Dec.{eqb}
+use lib.ListN.{getD}
+use Rattle.definitions.specs.Sizes.{EnumOf, enumIs, noEnum, enumOf}
+use Rattle.definitions.specs.FieldParser.{Setting, isBit}
+use Rattle.definitions.specs.declared.EndiannessValue.{EndiannessValue}
+use Rattle.definitions.specs.declared.FieldDesc.{FieldDesc}
+use Rattle.definitions.specs.declared.Field.{Field}
+
+-- ---- the value of a field
+
+-- a little endian file has the lowest octet first, a big endian file last
+abbrev pub lowestFirst : EndiannessValue → List ℕ → List ℕ
+lowestFirst EndiannessValue.LittleEndian os = os
+lowestFirst EndiannessValue.BigEndian os = reverse os
+
+-- bit j of octets whose lowest stands first: bit j % 8 of octet j / 8
+abbrev pub octetBit : List ℕ → ℕ → ℕ
+octetBit os j = getD os (j / 8) 0 / 2 ^ (j % 8) % 2
+
+-- the number that so many bits from bit s on make, the least significant first
+abbrev pub bitsAt : List ℕ → ℕ → ℕ → ℕ
+bitsAt os s zero = 0
+bitsAt os s (suc w) = octetBit os s + 2 * bitsAt os (suc s) w
+
+-- the value of a field in a group whose octets are `os`, as they stand in the frame: `before` are the bits of the group's fields before it
+abbrev pub fieldValue : EndiannessValue → List ℕ → ℕ → ℕ → ℕ
+fieldValue order os before width = bitsAt (lowestFirst order os) before width
+
+-- bytes
+abbrev pub Octets : List ℕ → Type 0
+Octets [] = Unit {0}
+Octets (b ∷ bs) = (b < 256) × Octets bs
+
+-- ---- the groups: bit fields gather up to the next octet boundary
+
+-- the width that an enum is declared with
+abbrev pub enumWidth : EnumOf → ℕ
+enumWidth (enumIs width isOpen isComplete) = width
+enumWidth noEnum = 0
+
+-- "widths are the record's, a flag 1, an enum as declared"; only bit fields have one
+abbrev pub declaredWidth : Setting → FieldDesc → ℕ
+declaredWidth c (FieldDesc.Checksum of) = 0
+declaredWidth c (FieldDesc.Padding size) = 0
+declaredWidth c (FieldDesc.Size of width) = width
+declaredWidth c (FieldDesc.Count of width) = width
+declaredWidth c (FieldDesc.ElementSize of width) = width
+declaredWidth c FieldDesc.Body = 0
+declaredWidth c (FieldDesc.Payload modifier) = 0
+declaredWidth c (FieldDesc.FixedScalar width value) = width
+declaredWidth c (FieldDesc.FixedEnum type tag) = enumWidth (enumOf (c .source) (c .scope) type)
+declaredWidth c (FieldDesc.Reserved width) = width
+declaredWidth c (FieldDesc.Array id width type modifier size) = 0
+declaredWidth c (FieldDesc.Scalar id width) = width
+declaredWidth c (FieldDesc.Flag id) = 1
+declaredWidth c (FieldDesc.Typedef id type) = enumWidth (enumOf (c .source) (c .scope) type)
+
+-- of a field
+abbrev pub widthOf : Setting → Field → ℕ
+widthOf c f = declaredWidth c (f .desc)
+
+-- the bits of a group
+abbrev pub bitsIn : Setting → List Field → ℕ
+bitsIn c [] = 0
+bitsIn c (f ∷ g) = widthOf c f + bitsIn c g
+
+-- the groups of fields of which some are gathered already. A field of another kind leaves these as they are (demand 2 asks only of groups that none
+-- breaks); what is left at the end is no group
+unfoldable pub gather : Setting → List Field → List Field → List (List Field)
+gather c gathered [] = []
+gather c gathered (f ∷ later) = elim (isBit c f) [
+  | true ↦ elim (eqb (bitsIn c (gathered ++ (f ∷ [])) % 8) 0) [
+    | true ↦ (gathered ++ (f ∷ [])) ∷ gather c [] later
+    | false ↦ gather c (gathered ++ (f ∷ [])) later
+  ]
+  | false ↦ gather c gathered later
+]
+
+-- the groups of a target
+abbrev pub groups : Setting → List (List Field)
+groups c = gather c [] (c .fields)

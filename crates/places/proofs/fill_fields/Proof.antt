@@ -1,0 +1,97 @@
+-- `places::fill_fields` meets its contract, by the laws of Filling.
+-- Assumes nothing.
+use lib.ListN.{length}
+use Prim.Native.Nat.{_-_}
+use Rattle.places.proofs.Filling.{Left, left-start, left-out, left-end, left-wrong, left-turn}
+use borrow.Author.Needs.{needs}
+use Rattle.places.proofs.fill_fields.Statement.{statement}
+use Rattle.places.proofs.fill_fields.Tie as tie
+
+abbrev Inv-loop : tie.InvT-loop
+Inv-loop s at table₀ base p₀ n₀ t8 table p n = Left s at table₀ table base n p
+
+abbrev μ-loop : tie.MeasureT-loop
+μ-loop s at table₀ base p₀ n₀ t8 table p n = length s - n
+
+loop-holds : tie.Need-loop-holds Inv-loop μ-loop
+loop-holds c = search (left-start, needs)
+
+slice-aggregate-key-at : tie.Need-slice-aggregate-key-at Inv-loop μ-loop
+slice-aggregate-key-at c = search needs
+
+key-at-requires : tie.Need-key-at-requires Inv-loop μ-loop
+key-at-requires c κs = search needs
+
+enum-told : tie.Need-enum-told Inv-loop μ-loop
+enum-told c = search needs
+
+enum-told-2 : tie.Need-enum-told-2 Inv-loop μ-loop
+enum-told-2 c = search needs
+
+same-length : tie.Need-same-length Inv-loop μ-loop
+same-length c = search needs
+
+returns : tie.Need-returns Inv-loop μ-loop
+returns c = search (left-end, needs)
+
+field-at-requires : tie.Need-field-at-requires Inv-loop μ-loop
+field-at-requires c κs = search needs
+
+enum-known-q : tie.Need-enum-known-q Inv-loop μ-loop
+enum-known-q c = search needs
+
+enum-told-3 : tie.Need-enum-told-3 Inv-loop μ-loop
+enum-told-3 c = search needs
+
+same-length-2 : tie.Need-same-length-2 Inv-loop μ-loop
+same-length-2 c = search needs
+
+returns-2 : tie.Need-returns-2 Inv-loop μ-loop
+returns-2 c = search (left-out, left-wrong, needs)
+
+add-put : tie.Need-add-put Inv-loop μ-loop
+add-put c = search needs
+
+put-requires : tie.Need-put-requires Inv-loop μ-loop
+put-requires c κs = search needs
+
+add-n : tie.Need-add-n Inv-loop μ-loop
+add-n c = search needs
+
+loop-less : tie.Need-loop-less Inv-loop μ-loop
+loop-less c = search needs
+
+loop-again : tie.Need-loop-again Inv-loop μ-loop
+loop-again c = search (left-turn, needs)
+
+same-length-3 : tie.Need-same-length-3 Inv-loop μ-loop
+same-length-3 c = search needs
+
+returns-3 : tie.Need-returns-3 Inv-loop μ-loop
+returns-3 c = search (left-out, left-wrong, needs)
+
+pub fill-fields-spec : {M : Type 1} → statement M
+fill-fields-spec =
+    tie.close
+    (tie.spec
+    Inv-loop
+    μ-loop
+    loop-holds
+    slice-aggregate-key-at
+    key-at-requires
+    enum-told
+    enum-told-2
+    same-length
+    returns
+    field-at-requires
+    enum-known-q
+    enum-told-3
+    same-length-2
+    returns-2
+    add-put
+    put-requires
+    add-n
+    loop-less
+    loop-again
+    same-length-3
+    returns-3)

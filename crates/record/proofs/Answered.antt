@@ -1,0 +1,164 @@
+-- What the reader's answer says of the whole answer: a refusal is the record's, and a record that passes is judged on by 7 to 9 over the
+-- declarations that the tables give.
+-- Assumes nothing.
+use Prim.Native.Nat.{ℕ, _≤_, _<_}
+use mathlib.Core.Bool.{Bool, true, false}
+use mathlib.Core.List.{List}
+use mathlib.Core.Path.{_≡_, refl, sym, ap, _∙_, subst}
+use native.Mathlib.Omega.{arith}
+use lib.ListN.{length, getD}
+use Rattle.definitions.specs.Bytes.{Text}
+use Rattle.definitions.specs.Record.{Declaration, Declarations, declarationsAre, noDeclarations, RecordRead, recordIs, noRecord, onHead, headAt, declarationsAt, withHead, readRecord}
+use Rattle.definitions.specs.Sizes.{Schema, newSchema}
+use Rattle.definitions.specs.Refusals.{tooMany, duplicateName, unknownName, outOfRange, large, ragged, noTarget, refuseIf, verdict}
+use Rattle.definitions.specs.FieldParser.{refused}
+use Rattle.definitions.specs.Answer.{wrongLength, lowerRecord, answerRead, answer}
+use Rattle.definitions.specs.declared.Head.{Head}
+use Rattle.definitions.specs.declared.HeadRead.{HeadRead}
+use Rattle.definitions.specs.declared.Refusal.{Refusal}
+use Rattle.definitions.specs.declared.Verdict.{Verdict}
+use Rattle.places.specs.Places.{Tables, given}
+use Rattle.ranges.specs.Ranges.{counted}
+use Rattle.ranges.proofs.Tests.{few-declarations, few-fields}
+use Rattle.record.specs.Reader.{readVerdict, readingOf, readingRead, reading, tablesAfter}
+use Rattle.record.specs.declared.Reading.{Reading}
+use Rattle.record.proofs.Verdicts.{many-counted}
+use Rattle.record.proofs.Agree.{Whole, few-given, reading-wrong, reading-right, after-right, afterHead, filled}
+
+-- ---- 3 to 6, then 7 to 9
+
+-- the rest of `verdict`
+abbrev pub laterVerdict : Text → Head → Schema → Verdict
+laterVerdict s h schema =
+    refuseIf (large schema) Refusal.TooLarge
+    (refuseIf (ragged s schema) Refusal.NotWholeBytes (refuseIf (noTarget s h schema) Refusal.NoTarget Verdict.Pass))
+
+-- one refusal before the others
+abbrev pub onVerdict : Verdict → Verdict → Verdict
+onVerdict Verdict.Pass next = next
+onVerdict (Verdict.Refuse why) next = Verdict.Refuse why
+
+on-refuse : (b : Bool) (why : Refusal) (x next : Verdict) → refuseIf b why (onVerdict x next) ≡ onVerdict (refuseIf b why x) next
+on-refuse true why x next = refl
+on-refuse false why x next = refl
+
+pub verdict-parts : (s : Text) (h : Head) (ds : List Declaration) (schema : Schema)
+    → verdict s h ds schema ≡ onVerdict (readVerdict s ds) (laterVerdict s h schema)
+unfolding verdict readVerdict
+verdict-parts s h ds schema =
+    ap (refuseIf (tooMany ds) Refusal.TooMany)
+    (ap (refuseIf (duplicateName s ds) Refusal.DuplicateName)
+    (ap (refuseIf (unknownName s ds) Refusal.UnknownName) (on-refuse (outOfRange ds) Refusal.OutOfRange Verdict.Pass next)
+    ∙ on-refuse (unknownName s ds) Refusal.UnknownName range next)
+    ∙ on-refuse (duplicateName s ds) Refusal.DuplicateName (refuseIf (unknownName s ds) Refusal.UnknownName range) next)
+    ∙ on-refuse (tooMany ds) Refusal.TooMany (refuseIf (duplicateName s ds) Refusal.DuplicateName (refuseIf (unknownName s ds) Refusal.UnknownName range)) next
+  where
+    next : Verdict
+    next = laterVerdict s h schema
+
+    range : Verdict
+    range = refuseIf (outOfRange ds) Refusal.OutOfRange Verdict.Pass
+
+-- ---- a refusal by 1 to 6 is the record's
+
+lower-refused : (s : Text) (h : Head) (ds : List Declaration) (schema : Schema) (why : Refusal) → verdict s h ds schema ≡ Verdict.Refuse why
+    → lowerRecord s h ds schema ≡ refused why
+unfolding lowerRecord
+lower-refused s h ds schema why e = rw (e, lowerRecord)
+
+pub answer-refused : (s : Text) (why : Refusal) → reading s ≡ Reading.Refuse why → answer s ≡ refused why
+unfolding answer
+answer-refused s why e = by (wrongLength s) refl
+  where
+    on-verdict : (h : Head) (ds : List Declaration) (v : Verdict) → readVerdict s ds ≡ v → readingOf h (length ds) v ≡ Reading.Refuse why
+        → lowerRecord s h ds (newSchema s ds) ≡ refused why
+    on-verdict h ds Verdict.Pass ev k = absurd (let z : _≡_ {A = ℕ} 0 1 = cc in omega arith)
+    on-verdict h ds (Verdict.Refuse w) ev k =
+        let q : w ≡ why = cc in
+        lower-refused s h ds (newSchema s ds) why
+        (verdict-parts s h ds (newSchema s ds) ∙ ap (λ (v : Verdict). onVerdict v (laterVerdict s h (newSchema s ds))) (ev ∙ ap Verdict.Refuse q))
+
+    on-read : (r : RecordRead) → readingRead s r ≡ Reading.Refuse why → answerRead s r ≡ refused why
+    on-read noRecord k = let q : Refusal.RecordForm ≡ why = cc in ap refused q
+    on-read (recordIs h ds) k = on-verdict h ds (readVerdict s ds) refl k
+
+    by : (b : Bool) → wrongLength s ≡ b → answer s ≡ refused why
+    by true h = let q : Refusal.RecordLength ≡ why = cc (reading-wrong s h) in rw (answer, h, q)
+    by false h = rw (answer, h) (on-read (readRecord s) (sym (reading-right s h) ∙ e))
+
+-- ---- a record that passes
+
+pub record Passed (s : Text) (h : Head) (n : ℕ) (t : Tables) : Type 0 where
+  pub right-length : wrongLength s ≡ false
+  pub read : readRecord s ≡ recordIs h (given s t n)
+  pub passed : readVerdict s (given s t n) ≡ Verdict.Pass
+  pub few : n ≤ 32
+  pub short : (i : ℕ) → i < n → getD (t .counts) i 0 ≤ 64
+
+-- 3 is not met
+none-many : (s : Text) (ds : List Declaration) → readVerdict s ds ≡ Verdict.Pass → tooMany ds ≡ false
+unfolding readVerdict
+none-many s ds e = by (tooMany ds) refl
+  where
+    by : (b : Bool) → tooMany ds ≡ b → b ≡ false
+    by true h = absurd (let k : Verdict.Refuse Refusal.TooMany ≡ Verdict.Pass = rw h at e in let z : _≡_ {A = ℕ} 0 1 = cc in omega arith)
+    by false h = refl
+
+module _ (s : Text) (t : Tables) (w : Whole t) (right : wrongLength s ≡ false) where
+  passed-with : (h : Head) (p : ℕ) (ds : List Declaration) → headAt s 0 ≡ HeadRead.Is h p → declarationsAt s (length s) p ≡ declarationsAre ds
+      → readVerdict s ds ≡ Verdict.Pass → Passed s h (length ds) (tablesAfter s t)
+  unfolding readRecord
+  passed-with h p ds eh ed ev = record {
+    right-length = right;
+    read = rw (eh, ed) (ap (recordIs h) (sym back));
+    passed = ap (readVerdict s) back ∙ ev;
+    few = few-declarations (tablesAfter s t .counts) (length ds) fewer;
+    short = few-fields (tablesAfter s t .counts) (length ds) fewer;
+  }
+    where
+      after : tablesAfter s t ≡ filled s p t
+      after = after-right s t right ∙ ap (afterHead s t) eh
+
+      back : given s (tablesAfter s t) (length ds) ≡ ds
+      back = ap (λ (x : Tables). given s x (length ds)) after ∙ few-given s p t w ds ed (none-many s ds ev)
+
+      fewer : tooMany (counted (tablesAfter s t .counts) (length ds)) ≡ false
+      fewer =
+          sym (many-counted s (tablesAfter s t .places) (tablesAfter s t .fields) (tablesAfter s t .counts) (length ds))
+          ∙ ap tooMany back ∙ none-many s ds ev
+
+pub reading-passed : (s : Text) (t : Tables) → Whole t → (h : Head) (n : ℕ) → reading s ≡ Reading.Pass h n → Passed s h n (tablesAfter s t)
+unfolding readRecord
+reading-passed s t w h n e = by (wrongLength s) refl
+  where
+    on-verdict : wrongLength s ≡ false → (g : Head) (p : ℕ) (ds : List Declaration) → headAt s 0 ≡ HeadRead.Is g p → declarationsAt s (length s) p ≡ declarationsAre ds
+        → (v : Verdict) → readVerdict s ds ≡ v → readingOf g (length ds) v ≡ Reading.Pass h n → Passed s h n (tablesAfter s t)
+    on-verdict r g p ds eh ed Verdict.Pass ev k =
+        let eg : g ≡ h = cc in
+        let en : length ds ≡ n = cc in
+        subst (λ (x : Head). Passed s x n (tablesAfter s t)) eg
+        (subst (λ (m : ℕ). Passed s g m (tablesAfter s t)) en (passed-with s t w r g p ds eh ed ev))
+    on-verdict r g p ds eh ed (Verdict.Refuse why) ev k = absurd (let z : _≡_ {A = ℕ} 0 1 = cc in omega arith)
+
+    on-declarations : wrongLength s ≡ false → (g : Head) (p : ℕ) → headAt s 0 ≡ HeadRead.Is g p → (d : Declarations) → declarationsAt s (length s) p ≡ d
+        → readingRead s (withHead g d) ≡ Reading.Pass h n → Passed s h n (tablesAfter s t)
+    on-declarations r g p eh (declarationsAre ds) ed k = on-verdict r g p ds eh ed (readVerdict s ds) refl k
+    on-declarations r g p eh noDeclarations ed k = absurd (let z : _≡_ {A = ℕ} 0 1 = cc in omega arith)
+
+    on-head : wrongLength s ≡ false → (g : HeadRead) → headAt s 0 ≡ g
+        → readingRead s (onHead g noRecord λ x p. withHead x (declarationsAt s (length s) p)) ≡ Reading.Pass h n → Passed s h n (tablesAfter s t)
+    on-head r (HeadRead.Is g p) eh k = on-declarations r g p eh (declarationsAt s (length s) p) refl k
+    on-head r HeadRead.Wrong eh k = absurd (let z : _≡_ {A = ℕ} 0 1 = cc in omega arith)
+
+    by : (b : Bool) → wrongLength s ≡ b → Passed s h n (tablesAfter s t)
+    by true r = absurd (let z : _≡_ {A = ℕ} 0 1 = cc (reading-wrong s r) in omega arith)
+    by false r = on-head r (headAt s 0) refl (sym (reading-right s r) ∙ e)
+
+-- ---- and what is left to do of it
+
+pub answer-passed : {s : Text} {h : Head} {n : ℕ} {t : Tables} → Passed s h n t → answer s ≡ lowerRecord s h (given s t n) (newSchema s (given s t n))
+unfolding answer
+answer-passed {s} p = rw (answer, p .right-length) (ap (answerRead s) (p .read))
+
+pub verdict-passed : {s : Text} {h : Head} {n : ℕ} {t : Tables} → Passed s h n t → (schema : Schema) → verdict s h (given s t n) schema ≡ laterVerdict s h schema
+verdict-passed {s} {h} {n} {t} p schema = verdict-parts s h (given s t n) schema ∙ ap (λ (v : Verdict). onVerdict v (laterVerdict s h schema)) (p .passed)

@@ -1,0 +1,62 @@
+-- The exits of the reader over tables of any length (`readingIn`, `tablesAfter`).
+-- Assumes nothing.
+use Prim.Native.Nat.{ℕ, _≤_, _<_}
+use mathlib.Core.Bool.{true, false}
+use mathlib.Core.List.{List}
+use mathlib.Core.Path.{_≡_, sym, ap, _∙_}
+use borrow.Author.Tests.{eq-eqb, ne-eqb, lt-ltb, le-ltb}
+use lib.ListN.{length}
+use Rattle.definitions.specs.Record.{headAt}
+use Rattle.definitions.specs.Answer.{wrongLength}
+use Rattle.definitions.specs.Tables.{declarationsFrom}
+use Rattle.definitions.specs.declared.Head.{Head}
+use Rattle.definitions.specs.declared.HeadRead.{HeadRead}
+use Rattle.definitions.specs.declared.Refusal.{Refusal}
+use Rattle.definitions.specs.declared.Verdict.{Verdict}
+use Rattle.places.specs.Places.{tablesOf, Read}
+use Rattle.places.specs.declared.DeclsRead.{DeclsRead}
+use Rattle.record.specs.Reader.{readVerdict, readingOf, readingCounted, readingIn, tablesAfter, InTables}
+use Rattle.record.specs.declared.Reading.{Reading}
+
+module _ (s p f c : List ℕ) where
+  length-wrong : wrongLength s ≡ true → InTables s (tablesOf p f c) (Reading.Refuse Refusal.RecordLength) (tablesOf p f c)
+  unfolding readingIn tablesAfter
+  length-wrong h = record { answer = rw (h, readingIn); tables = rw (h, tablesAfter) }
+
+  pub length-empty : length s ≡ 0 → InTables s (tablesOf p f c) (Reading.Refuse Refusal.RecordLength) (tablesOf p f c)
+  length-empty h = length-wrong (rw (eq-eqb (length s) 0 h))
+
+  module _ (some : length s ≡ 0 → ⊥) where
+    pub length-long : 16384 < length s → InTables s (tablesOf p f c) (Reading.Refuse Refusal.RecordLength) (tablesOf p f c)
+    length-long h = length-wrong (rw (ne-eqb (length s) 0 some, lt-ltb 16384 (length s) h))
+
+    module _ (short : length s ≤ 16384) {g : HeadRead} (eg : g ≡ headAt s 0) where
+      length-right : wrongLength s ≡ false
+      length-right = rw (ne-eqb (length s) 0 some, le-ltb 16384 (length s) short)
+
+      pub head-wrong : g ≡ HeadRead.Wrong → InTables s (tablesOf p f c) (Reading.Refuse Refusal.RecordForm) (tablesOf p f c)
+      unfolding readingIn tablesAfter
+      head-wrong h = record { answer = rw (length-right, readingIn, sym eg ∙ h); tables = rw (length-right, tablesAfter, sym eg ∙ h) }
+
+      module _ {h : Head} {at : ℕ} (hg : g ≡ HeadRead.Is h at) {d : DeclsRead} {x y z : List ℕ} (r : Read s at p f c d x y z) where
+        after : tablesOf x y z ≡ tablesAfter s (tablesOf p f c)
+        unfolding tablesAfter
+        after = r .tables ∙ rw (length-right, tablesAfter, sym eg ∙ hg)
+
+        counts : readingIn s (tablesOf x y z) ≡ readingCounted s h (tablesOf x y z) d
+        unfolding readingIn
+        counts = rw (length-right, readingIn, sym eg ∙ hg) (ap (readingCounted s h (tablesOf x y z)) (sym (r .answer)))
+
+        pub form-wrong : d ≡ DeclsRead.Wrong → InTables s (tablesOf p f c) (Reading.Refuse Refusal.RecordForm) (tablesOf x y z)
+        form-wrong hd = record { answer = sym (counts ∙ ap (readingCounted s h (tablesOf x y z)) hd); tables = after }
+
+        pub form-right : {n : ℕ} → d ≡ DeclsRead.Is n → {v : Reading} → v ≡ readingOf h n (readVerdict s (declarationsFrom s x y z 0 n))
+            → InTables s (tablesOf p f c) v (tablesOf x y z)
+        form-right hd ev = record { answer = ev ∙ sym (counts ∙ ap (readingCounted s h (tablesOf x y z)) hd); tables = after }
+
+module _ (h : Head) (n : ℕ) {v w : Verdict} (ev : v ≡ w) where
+  pub judge-pass : v ≡ Verdict.Pass → Reading.Pass h n ≡ readingOf h n w
+  judge-pass hv = ap (readingOf h n) (sym hv ∙ ev)
+
+  pub judge-refuse : {why : Refusal} → v ≡ Verdict.Refuse why → Reading.Refuse why ≡ readingOf h n w
+  judge-refuse hv = ap (readingOf h n) (sym hv ∙ ev)

@@ -1,0 +1,4 @@
+pub mod Verdicts
+pub mod Exits
+pub mod Agree
+pub mod Answered

@@ -1,0 +1,123 @@
+-- A walk over the fields of a declaration by their index: what is left from k on, and the tests of each turn.
+-- Assumes nothing.
+use Prim.Native.Nat.{ℕ, suc, _+_, _*_, _-_, _/_, _≤_, _<_}
+use mathlib.Core.Bool.{Bool, true, false, _||_}
+use mathlib.Core.List.{List, [], _∷_}
+use mathlib.Core.Path.{_≡_, refl, sym, ap, _∙_}
+use native.Mathlib.Nat.{add-zero, sub-zero, div-lt-iff-lt-mul}
+use native.Mathlib.Omega.{arith}
+use lib.ListN.{length, getD, List·getD-eq-default}
+use Rattle.definitions.specs.Bytes.{Text, pick}
+use Rattle.definitions.specs.Sizes.{sameName, reference, anyReference, countedBy, firstCount}
+use Rattle.definitions.specs.Tables.{fieldHere, fieldsFrom}
+use Rattle.definitions.specs.declared.ArraySize.{ArraySize}
+use Rattle.definitions.specs.declared.Field.{Field}
+use Rattle.definitions.specs.declared.Part.{Part}
+use Rattle.definitions.specs.declared.Reference.{Reference}
+use Rattle.references.specs.Wanted.{wantedBy, isKnown}
+use Rattle.references.specs.declared.Wanted.{Wanted}
+
+-- ---- the place of a field
+
+module _ (fields : List ℕ) (i k : ℕ) where
+  pub place-past : length fields / 64 < i → 0 ≡ getD fields (i * 64 + k) 0
+  place-past h =
+      sym (List·getD-eq-default fields 0 (omega (arith, div-lt-iff-lt-mul {k = 64} {x = length fields} {y = i} (omega arith) .0 h)))
+
+  pub place-behind : length fields ≤ k → 0 ≡ getD fields (i * 64 + k) 0
+  place-behind h = sym (List·getD-eq-default fields 0 (omega arith))
+
+pub field-as : (s : Text) {at p : ℕ} {f : Field} → at ≡ p → f ≡ fieldHere s at → f ≡ fieldHere s p
+field-as s e h = h ∙ ap (fieldHere s) e
+
+-- ---- what is left of n fields from the k-th on
+
+module _ (s : Text) (fields : List ℕ) (j n : ℕ) where
+  pub fields-start : fieldsFrom s fields (j + 0) (n - 0) ≡ fieldsFrom s fields j n
+  fields-start = ap (λ (j : ℕ). fieldsFrom s fields j (n - 0)) (add-zero j) ∙ ap (fieldsFrom s fields j) (sub-zero n)
+
+  pub fields-end : (k : ℕ) → n ≤ k → fieldsFrom s fields (j + k) (n - k) ≡ []
+  unfolding fieldsFrom
+  fields-end k h = ap (fieldsFrom s fields (j + k)) (let z : n - k ≡ 0 = omega arith in z)
+
+  pub fields-more : (k : ℕ) → k < n
+      → fieldsFrom s fields (j + k) (n - k) ≡ fieldHere s (getD fields (j + k) 0) ∷ fieldsFrom s fields (j + (k + 1)) (n - (k + 1))
+  unfolding fieldsFrom
+  fields-more k h =
+      ap (fieldsFrom s fields (j + k)) (let z : n - k ≡ suc (n - (k + 1)) = omega arith in z)
+      ∙ ap (λ (i : ℕ). fieldHere s (getD fields (j + k) 0) ∷ fieldsFrom s fields i (n - (k + 1))) (let z : j + k + 1 ≡ j + (k + 1) = omega arith in z)
+
+-- ---- some field is wanted
+
+module _ (s : Text) (wanted : Wanted) (fields : List ℕ) (j n : ℕ) where
+  pub any-start : anyReference (wantedBy s wanted) (fieldsFrom s fields (j + 0) (n - 0)) ≡ anyReference (wantedBy s wanted) (fieldsFrom s fields j n)
+  any-start = ap (anyReference (wantedBy s wanted)) (fields-start s fields j n)
+
+  module _ (k : ℕ) {e : Bool} (inv : anyReference (wantedBy s wanted) (fieldsFrom s fields (j + k) (n - k)) ≡ e) where
+    pub any-end : n ≤ k → false ≡ e
+    any-end h = ap (anyReference (wantedBy s wanted)) (sym (fields-end s fields j n k h)) ∙ inv
+
+    module _ (h : k < n) {f : Field} (ef : f ≡ fieldHere s (getD fields (j + k) 0)) {by : Reference} (er : by ≡ reference (f .desc)) {b : Bool} (eb : b ≡ wantedBy s wanted by) where
+      split : (b || anyReference (wantedBy s wanted) (fieldsFrom s fields (j + (k + 1)) (n - (k + 1)))) ≡ e
+      split =
+          ap (λ (b : Bool). b || anyReference (wantedBy s wanted) (fieldsFrom s fields (j + (k + 1)) (n - (k + 1))))
+          (eb ∙ ap (wantedBy s wanted) (er ∙ ap (λ (f : Field). reference (f .desc)) ef))
+          ∙ ap (anyReference (wantedBy s wanted)) (sym (fields-more s fields j n k h)) ∙ inv
+
+      pub any-found : b ≡ true → true ≡ e
+      any-found hb = ap (λ (b : Bool). b || anyReference (wantedBy s wanted) (fieldsFrom s fields (j + (k + 1)) (n - (k + 1)))) (sym hb) ∙ split
+
+      pub any-turn : b ≡ false → anyReference (wantedBy s wanted) (fieldsFrom s fields (j + (k + 1)) (n - (k + 1))) ≡ e
+      any-turn hb = ap (λ (b : Bool). b || anyReference (wantedBy s wanted) (fieldsFrom s fields (j + (k + 1)) (n - (k + 1)))) (sym hb) ∙ split
+
+-- ---- the first size or count field of an array
+
+picked : (b : Bool) (x : ArraySize) {c : ArraySize} (other : ArraySize) → isKnown x ≡ true → c ≡ pick b x ArraySize.Unknown → isKnown c ≡ true → c ≡ pick b x other
+picked true x other hx e h = e
+picked false x other hx e h =
+    absurd (let q : _≡_ {A = Bool} false true = ap isKnown (sym e) ∙ h in let v : _≡_ {A = ℕ} 0 1 = cc in omega arith)
+
+passed : (b : Bool) (x : ArraySize) {c : ArraySize} (other : ArraySize) → isKnown x ≡ true → c ≡ pick b x ArraySize.Unknown → isKnown c ≡ false → other ≡ pick b x other
+passed true x other hx e h =
+    absurd (let q : _≡_ {A = Bool} true false = sym hx ∙ ap isKnown (sym e) ∙ h in let v : _≡_ {A = ℕ} 0 1 = cc in omega arith)
+passed false x other hx e h = refl
+
+counted-known : (s : Text) (id : Part) (by : Reference) {c : ArraySize} (other : ArraySize)
+    → c ≡ countedBy s id by ArraySize.Unknown → isKnown c ≡ true → c ≡ countedBy s id by other
+counted-known s id Reference.None other e h =
+    absurd (let q : _≡_ {A = Bool} false true = ap isKnown (sym e) ∙ h in let v : _≡_ {A = ℕ} 0 1 = cc in omega arith)
+counted-known s id (Reference.Size of width) other e h = picked (sameName s of id) ArraySize.DynamicSize other refl e h
+counted-known s id (Reference.Count of) other e h = picked (sameName s of id) ArraySize.DynamicCount other refl e h
+counted-known s id (Reference.ElementSize of) other e h =
+    absurd (let q : _≡_ {A = Bool} false true = ap isKnown (sym e) ∙ h in let v : _≡_ {A = ℕ} 0 1 = cc in omega arith)
+
+counted-unknown : (s : Text) (id : Part) (by : Reference) {c : ArraySize} (other : ArraySize)
+    → c ≡ countedBy s id by ArraySize.Unknown → isKnown c ≡ false → other ≡ countedBy s id by other
+counted-unknown s id Reference.None other e h = refl
+counted-unknown s id (Reference.Size of width) other e h = passed (sameName s of id) ArraySize.DynamicSize other refl e h
+counted-unknown s id (Reference.Count of) other e h = passed (sameName s of id) ArraySize.DynamicCount other refl e h
+counted-unknown s id (Reference.ElementSize of) other e h = refl
+
+module _ (s : Text) (id : Part) (fields : List ℕ) (j n : ℕ) where
+  pub count-start : firstCount s id (fieldsFrom s fields (j + 0) (n - 0)) ≡ firstCount s id (fieldsFrom s fields j n)
+  count-start = ap (firstCount s id) (fields-start s fields j n)
+
+  module _ (k : ℕ) {e : ArraySize} (inv : firstCount s id (fieldsFrom s fields (j + k) (n - k)) ≡ e) where
+    pub count-end : n ≤ k → ArraySize.Unknown ≡ e
+    unfolding firstCount
+    count-end h = ap (firstCount s id) (sym (fields-end s fields j n k h)) ∙ inv
+
+    module _ (h : k < n) {f : Field} (ef : f ≡ fieldHere s (getD fields (j + k) 0)) {by : Reference} (er : by ≡ reference (f .desc)) {c : ArraySize} (ec : c ≡ countedBy s id by ArraySize.Unknown) where
+      split-count : countedBy s id by (firstCount s id (fieldsFrom s fields (j + (k + 1)) (n - (k + 1)))) ≡ e
+      unfolding firstCount
+      split-count =
+          ap (λ (by : Reference). countedBy s id by (firstCount s id (fieldsFrom s fields (j + (k + 1)) (n - (k + 1)))))
+          (er ∙ ap (λ (f : Field). reference (f .desc)) ef)
+          ∙ ap (firstCount s id) (sym (fields-more s fields j n k h)) ∙ inv
+
+      module _ {b : Bool} (eb : b ≡ isKnown c) where
+        pub count-found : b ≡ true → c ≡ e
+        count-found hb = counted-known s id by _ ec (sym eb ∙ hb) ∙ split-count
+
+        pub count-turn : b ≡ false → firstCount s id (fieldsFrom s fields (j + (k + 1)) (n - (k + 1))) ≡ e
+        count-turn hb = counted-unknown s id by _ ec (sym eb ∙ hb) ∙ split-count

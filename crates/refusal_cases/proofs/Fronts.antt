@@ -1,0 +1,10 @@
+-- The length of a front part.
+-- Assumes nothing.
+use Prim.Native.Nat.{ℕ, _≤_}
+use mathlib.Core.List.{List}
+use mathlib.Core.Path.{_≡_, sym}
+use lib.ListN.{length, take}
+use lib.Seq.{length-take-le}
+
+pub front : (n : ℕ) (l : List ℕ) → n ≤ length l → n ≡ length (take n l)
+front n l h = sym (length-take-le n l h)

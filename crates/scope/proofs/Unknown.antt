@@ -1,0 +1,172 @@
+-- The exits of the test for refusal 5 (`unknownName`).
+-- Assumes nothing.
+use Prim.Native.Nat.{ℕ, zero, suc, _+_, _*_, _-_, _≤_, _<_}
+use mathlib.Core.Bool.{Bool, true, false, not, _||_}
+use mathlib.Core.List.{List, [], _∷_, _++_}
+use mathlib.Core.Option.{none, some}
+use mathlib.Core.Path.{_≡_, refl, sym, ap, _∙_}
+use native.Mathlib.Nat.{sub-zero, zero-add}
+use native.Mathlib.Numerals.{add-one}
+use native.Mathlib.Omega.{arith}
+use lib.ListN.{getD}
+use Rattle.definitions.specs.Bytes.{Text, any}
+use Rattle.definitions.specs.Record.{Declaration, onFound}
+use Rattle.definitions.specs.Sizes.{parentId}
+use Rattle.definitions.specs.Refusals.{find, isFrame, isEnumDesc, isThere, lacks, badName, badType, badNames, unknownFrom, unknownName}
+use Rattle.definitions.specs.Tables.{fieldHere, declHere, fieldsFrom, declarationIn, declarationsFrom}
+use Rattle.definitions.specs.declared.Part.{Part}
+use Rattle.definitions.specs.declared.MaybePart.{MaybePart}
+use Rattle.definitions.specs.declared.FieldDesc.{FieldDesc}
+use Rattle.definitions.specs.declared.DeclDesc.{DeclDesc}
+use Rattle.definitions.specs.declared.Field.{Field}
+use Rattle.definitions.specs.declared.Decl.{Decl}
+use Rattle.definitions.specs.declared.Found.{Found}
+use Rattle.places.specs.Places.{which, declsFrom}
+use Rattle.places.proofs.Search.{find-which}
+use Rattle.places.proofs.Walks.{any-fields-start, any-fields-end, any-fields-found, any-fields-turn}
+use Rattle.scope.specs.Scopes.{bare, wants, badFieldType}
+use Rattle.scope.specs.declared.Role.{Role}
+
+-- ---- what a kind computes to
+
+pub kind-type : (s : Text) (earlier : List Declaration) {d k : FieldDesc} {b : Bool} → d ≡ k → b ≡ badType s earlier k → b ≡ badType s earlier d
+kind-type s earlier e h = h ∙ ap (badType s earlier) (sym e)
+
+-- ---- the look-up of a name
+
+module _ (s p : List ℕ) (n : ℕ) (role : Role) (name : Part) {f : Found} (ef : f ≡ which s name 0 (declsFrom s p 0 n)) where
+  looked : lacks (wants role) (find s (bare s p n) name) ≡ lacks (wants role) (onFound f none λ j. some (declHere s (getD p j 0) .desc))
+  looked =
+      ap (lacks (wants role)) (find-which s p [] [] name 0 n)
+      ∙ ap (λ (g : Found). lacks (wants role) (onFound g none λ j. some (declHere s (getD p j 0) .desc))) (sym ef)
+
+  pub lacks-none : f ≡ Found.Nothing → true ≡ lacks (wants role) (find s (bare s p n) name)
+  lacks-none h = sym (looked ∙ ap (λ (g : Found). lacks (wants role) (onFound g none λ j. some (declHere s (getD p j 0) .desc))) h)
+
+  pub lacks-role : {i : ℕ} → f ≡ Found.At i → {at : ℕ} → at ≡ getD p i 0 → {d : Decl} → d ≡ declHere s at → {b : Bool} → b ≡ wants role (d .desc)
+      → not b ≡ lacks (wants role) (find s (bare s p n) name)
+  lacks-role h ea ed eb =
+      ap not (eb ∙ ap (λ (x : Decl). wants role (x .desc)) (ed ∙ ap (declHere s) ea))
+      ∙ sym (looked ∙ ap (λ (g : Found). lacks (wants role) (onFound g none λ j. some (declHere s (getD p j 0) .desc))) h)
+
+module _ (s : Text) (earlier : List Declaration) (role : Role) {m : MaybePart} where
+  pub name-none : m ≡ MaybePart.None → false ≡ badName s earlier (wants role) m
+  name-none h = ap (badName s earlier (wants role)) (sym h)
+
+  pub name-some : {p : Part} → m ≡ MaybePart.Some p → {b : Bool} → b ≡ lacks (wants role) (find s earlier p) → b ≡ badName s earlier (wants role) m
+  name-some h e = e ∙ ap (badName s earlier (wants role)) (sym h)
+
+-- ---- the fields of a declaration
+
+module _ (s : List ℕ) (earlier : List Declaration) (fields : List ℕ) (j m k : ℕ) {e : Bool}
+    (inv : any (badFieldType s earlier) (fieldsFrom s fields (j + k) (m - k)) ≡ e) where
+  pub type-end : m ≤ k → false ≡ e
+  type-end h = any-fields-end (badFieldType s earlier) s fields j m k inv h
+
+  module _ (h : k < m) {at : ℕ} (ea : at ≡ getD fields (j + k) 0) {f : Field} (ef : f ≡ fieldHere s at) {b : Bool} (eb : b ≡ badType s earlier (f .desc)) where
+    tested : badFieldType s earlier (fieldHere s (getD fields (j + k) 0)) ≡ b
+    tested = sym (eb ∙ ap (badFieldType s earlier) (ef ∙ ap (fieldHere s) ea))
+
+    pub type-found : b ≡ true → true ≡ e
+    type-found hb = any-fields-found (badFieldType s earlier) s fields j m k inv h (tested ∙ hb)
+
+    pub type-turn : b ≡ false → any (badFieldType s earlier) (fieldsFrom s fields (j + (k + 1)) (m - (k + 1))) ≡ e
+    type-turn hb = any-fields-turn (badFieldType s earlier) s fields j m k inv h (tested ∙ hb)
+
+pub type-start : (s : List ℕ) (earlier : List Declaration) (fields : List ℕ) (j m : ℕ)
+    → any (badFieldType s earlier) (fieldsFrom s fields (j + 0) (m - 0)) ≡ any (badFieldType s earlier) (fieldsFrom s fields j m)
+type-start s earlier fields j m = any-fields-start (badFieldType s earlier) s fields j m
+
+-- ---- a declaration
+
+module _ (s p f c : List ℕ) (earlier : List Declaration) (i : ℕ) {at : ℕ} (ea : at ≡ getD p i 0) {d : Decl} (ed : d ≡ declHere s at)
+    {m : MaybePart} (em : m ≡ parentId (d .desc)) {b : Bool} (eb : b ≡ badName s earlier isFrame m) where
+  parent-tested : badName s earlier isFrame (parentId (declHere s (getD p i 0) .desc)) ≡ b
+  parent-tested = sym (eb ∙ ap (badName s earlier isFrame) (em ∙ ap (λ (x : Decl). parentId (x .desc)) (ed ∙ ap (declHere s) ea)))
+
+  pub names-parent : b ≡ true → true ≡ badNames s earlier (declarationIn s p f c i)
+  names-parent h = sym (ap (λ (x : Bool). x || any (badFieldType s earlier) (fieldsFrom s f (i * 64) (getD c i 0))) (parent-tested ∙ h))
+
+  pub names-fields : b ≡ false → {n : ℕ} → n ≡ getD c i 0 → {r : Bool} → r ≡ any (badFieldType s earlier) (fieldsFrom s f (i * 64) n)
+      → r ≡ badNames s earlier (declarationIn s p f c i)
+  names-fields h en er =
+      er ∙ ap (λ (k : ℕ). any (badFieldType s earlier) (fieldsFrom s f (i * 64) k)) en
+      ∙ sym (ap (λ (x : Bool). x || any (badFieldType s earlier) (fieldsFrom s f (i * 64) (getD c i 0))) (parent-tested ∙ h))
+
+-- ---- declarations that give the same look-ups
+
+module _ (s : Text) (a b : List Declaration) (same : (name : Part) → find s a name ≡ find s b name) where
+  name-like : (ok : DeclDesc → Bool) (m : MaybePart) → badName s a ok m ≡ badName s b ok m
+  name-like ok MaybePart.None = refl
+  name-like ok (MaybePart.Some p) = ap (lacks ok) (same p)
+
+  type-like : (d : FieldDesc) → badType s a d ≡ badType s b d
+  type-like (FieldDesc.Checksum of) = refl
+  type-like (FieldDesc.Padding size) = refl
+  type-like (FieldDesc.Size of width) = refl
+  type-like (FieldDesc.Count of width) = refl
+  type-like (FieldDesc.ElementSize of width) = refl
+  type-like FieldDesc.Body = refl
+  type-like (FieldDesc.Payload modifier) = refl
+  type-like (FieldDesc.FixedScalar width value) = refl
+  type-like (FieldDesc.FixedEnum type tag) = name-like isEnumDesc (MaybePart.Some type)
+  type-like (FieldDesc.Reserved width) = refl
+  type-like (FieldDesc.Array id width type modifier size) = name-like isThere type
+  type-like (FieldDesc.Scalar id width) = refl
+  type-like (FieldDesc.Flag id) = refl
+  type-like (FieldDesc.Typedef id type) = name-like isThere (MaybePart.Some type)
+
+  types-like : (xs : List Field) → any (badFieldType s a) xs ≡ any (badFieldType s b) xs
+  types-like [] = refl
+  types-like (x ∷ xs) = rw (type-like (x .desc), types-like xs)
+
+  names-like : (d : Declaration) → badNames s a d ≡ badNames s b d
+  names-like d = rw (name-like isFrame (parentId (d .decl .desc)), types-like (d .fields))
+
+bare-names : (s p f c : List ℕ) (i : ℕ) (d : Declaration) → badNames s (declarationsFrom s p f c 0 i) d ≡ badNames s (bare s p i) d
+bare-names s p f c i d =
+    names-like s (declarationsFrom s p f c 0 i) (bare s p i) (λ name. find-which s p f c name 0 i ∙ sym (find-which s p [] [] name 0 i)) d
+
+-- ---- each declaration against those before it
+
+one-more : (s p f c : List ℕ) (i n : ℕ) → declarationsFrom s p f c i n ++ (declarationIn s p f c (i + n) ∷ []) ≡ declarationsFrom s p f c i (suc n)
+unfolding declarationsFrom
+one-more s p f c i zero = ap (λ (k : ℕ). declarationIn s p f c k ∷ []) (let z : i + 0 ≡ i = omega arith in z)
+one-more s p f c i (suc n) =
+    ap (λ (l : List Declaration). declarationIn s p f c i ∷ l)
+    (ap (λ (k : ℕ). declarationsFrom s p f c (i + 1) n ++ (declarationIn s p f c k ∷ [])) (let z : i + suc n ≡ i + 1 + n = omega arith in z) ∙ one-more s p f c (i + 1) n)
+
+pub unknown-start : (s p f c : List ℕ) (n : ℕ)
+    → unknownFrom s (declarationsFrom s p f c 0 0) (declarationsFrom s p f c 0 (n - 0)) ≡ unknownName s (declarationsFrom s p f c 0 n)
+unfolding declarationsFrom
+unknown-start s p f c n = rw sub-zero
+
+module _ (s p f c : List ℕ) (n i : ℕ) {e : Bool} (inv : unknownFrom s (declarationsFrom s p f c 0 i) (declarationsFrom s p f c i (n - i)) ≡ e) where
+  pub unknown-end : n ≤ i → false ≡ e
+  unfolding unknownFrom declarationsFrom
+  unknown-end h = rw (let z : n - i ≡ 0 = omega arith in z, declarationsFrom, unknownFrom) at inv
+
+  module _ (h : i < n) {b : Bool} (eb : b ≡ badNames s (bare s p i) (declarationIn s p f c i)) where
+    next : Bool
+    next = unknownFrom s (declarationsFrom s p f c 0 (i + 1)) (declarationsFrom s p f c (i + 1) (n - (i + 1)))
+
+    snoc : declarationsFrom s p f c 0 i ++ (declarationIn s p f c i ∷ []) ≡ declarationsFrom s p f c 0 (i + 1)
+    snoc =
+        ap (λ (k : ℕ). declarationsFrom s p f c 0 i ++ (declarationIn s p f c k ∷ [])) (sym (zero-add i))
+        ∙ one-more s p f c 0 i
+        ∙ ap (declarationsFrom s p f c 0) (sym (add-one i))
+
+    opened : b || next ≡ e
+    unfolding unknownFrom declarationsFrom next
+    opened =
+        ap (λ (x : Bool). x || next) (eb ∙ sym (bare-names s p f c i (declarationIn s p f c i)))
+        ∙ ap (λ (l : List Declaration). badNames s (declarationsFrom s p f c 0 i) (declarationIn s p f c i) || unknownFrom s l (declarationsFrom s p f c (i + 1) (n - (i + 1)))) (sym snoc)
+        ∙ sym (ap (λ (m : ℕ). unknownFrom s (declarationsFrom s p f c 0 i) (declarationsFrom s p f c i m)) (let z : n - i ≡ suc (n - (i + 1)) = omega arith in z))
+        ∙ inv
+
+    pub unknown-found : b ≡ true → true ≡ e
+    unknown-found hb = sym (ap (λ (x : Bool). x || next) hb) ∙ opened
+
+    pub unknown-turn : b ≡ false → unknownFrom s (declarationsFrom s p f c 0 (i + 1)) (declarationsFrom s p f c (i + 1) (n - (i + 1))) ≡ e
+    unfolding next
+    unknown-turn hb = sym (ap (λ (x : Bool). x || next) hb) ∙ opened

@@ -1,0 +1,251 @@
+// Refusals 4 and 5 over the tables of places (document 01, 'The answer'; `Scope::new` of analyzer.rs refuses duplicates too): two declarations with
+// one name, and a type or parent that is no earlier declaration of its kind.
+
+use definitions::DeclDesc;
+use definitions::FieldDesc;
+use definitions::Found;
+use definitions::MaybePart;
+use definitions::Part;
+ghost use mathlib.Core.Path.{_≡_};
+ghost use mathlib.Core.Bool.{false};
+ghost use mathlib.Core.List.{[]};
+ghost use Prim.Native.Nat.{_+_, _-_, _≤_};
+ghost use lib.ListN.{getD};
+ghost use Rattle.definitions.specs.Bytes.{any};
+ghost use Rattle.definitions.specs.Sizes.{parentId};
+ghost use Rattle.definitions.specs.Refusals.{tooMany, duplicateName, find as findDesc, isFrame, isEnumDesc, lacks as lacksDesc, badName, badType, badNames, unknownName};
+ghost use Rattle.definitions.specs.Tables.{fieldsFrom, declarationIn, declarationsFrom};
+ghost use Rattle.ranges.specs.Ranges.{counted};
+ghost use Rattle.scope.specs.Scopes.{bare, hasName, wants, badFieldType};
+
+// ---- 4: two declarations with one name
+
+// One of the declarations from `first` up to n has the name.
+fn is_named(rec: &[u8], places: &[usize], first: usize, n: usize, name: Part) -> bool
+    ensures { λ r. ⌜ r ≡ any (hasName (now (rec .entry)) name) (declarationsFrom (now (rec .entry)) (now (places .entry)) [] [] first (n - first)) ⌝ }
+{
+    let mut i = first;
+    while i < n {
+        let at = places::get(places, i);
+        let d = places::decl_here(rec, at);
+        let id = d.id;
+        if names::same_name(rec, name, id) {
+            return true;
+        }
+        i += 1;
+    }
+    false
+}
+
+// Two of the first n declarations have one name.
+pub fn duplicate_name(rec: &[u8], places: &[usize], n: usize) -> bool
+    ensures { λ r. ⌜ r ≡ duplicateName (now (rec .entry)) (bare (now (rec .entry)) (now (places .entry)) n) ⌝ }
+{
+    let mut i = 0;
+    while i < n {
+        let at = places::get(places, i);
+        let d = places::decl_here(rec, at);
+        let id = d.id;
+        if is_named(rec, places, i + 1, n, id) {
+            return true;
+        }
+        i += 1;
+    }
+    false
+}
+
+// ---- 5: a type or parent is not an earlier declaration, a parent is no packet or struct, a fixed enum's type is no enum
+
+// What a name must stand for.
+pub enum Role {
+    Anything,
+    Frame,
+    Enum,
+}
+
+// A packet or struct.
+pub fn is_frame(desc: DeclDesc) -> bool
+    ensures { λ r. ⌜ r ≡ isFrame desc ⌝ }
+{
+    match desc {
+        DeclDesc::Checksum { width: _ } => false,
+        DeclDesc::CustomField { width: _ } => false,
+        DeclDesc::Enum {
+            width: _,
+            open: _,
+            complete: _,
+        } => false,
+        DeclDesc::Packet { parent_id: _ } => true,
+        DeclDesc::Struct { parent_id: _ } => true,
+    }
+}
+
+// An enum.
+fn is_enum(desc: DeclDesc) -> bool
+    ensures { λ r. ⌜ r ≡ isEnumDesc desc ⌝ }
+{
+    match desc {
+        DeclDesc::Checksum { width: _ } => false,
+        DeclDesc::CustomField { width: _ } => false,
+        DeclDesc::Enum {
+            width: _,
+            open: _,
+            complete: _,
+        } => true,
+        DeclDesc::Packet { parent_id: _ } => false,
+        DeclDesc::Struct { parent_id: _ } => false,
+    }
+}
+
+// A declaration that a name may stand for.
+fn plays(role: Role, desc: DeclDesc) -> bool
+    ensures { λ r. ⌜ r ≡ wants role desc ⌝ }
+{
+    match role {
+        Role::Anything => true,
+        Role::Frame => is_frame(desc),
+        Role::Enum => is_enum(desc),
+    }
+}
+
+// None of the first n declarations has the name, or the first that has it does not play the role.
+fn lacks(rec: &[u8], places: &[usize], n: usize, role: Role, name: Part) -> bool
+    ensures { λ r. ⌜ r ≡ lacksDesc (wants role) (findDesc (now (rec .entry)) (bare (now (rec .entry)) (now (places .entry)) n) name) ⌝ }
+{
+    match places::find(rec, places, n, name) {
+        Found::Nothing => true,
+        Found::At(i) => {
+            let at = places::get(places, i);
+            let d = places::decl_here(rec, at);
+            let desc = d.desc;
+            !plays(role, desc)
+        }
+    }
+}
+
+// A name that may be absent.
+fn bad_name(rec: &[u8], places: &[usize], n: usize, role: Role, name: MaybePart) -> bool
+    ensures { λ r. ⌜ r ≡ badName (now (rec .entry)) (bare (now (rec .entry)) (now (places .entry)) n) (wants role) name ⌝ }
+{
+    match name {
+        MaybePart::None => false,
+        MaybePart::Some(p) => lacks(rec, places, n, role, p),
+    }
+}
+
+// The type of a field of the declaration behind the first n.
+fn bad_type(rec: &[u8], places: &[usize], n: usize, desc: FieldDesc) -> bool
+    ensures { λ r. ⌜ r ≡ badType (now (rec .entry)) (bare (now (rec .entry)) (now (places .entry)) n) desc ⌝ }
+{
+    match desc {
+        FieldDesc::Checksum { field_id: _ } => false,
+        FieldDesc::Padding { size: _ } => false,
+        FieldDesc::Size {
+            field_id: _,
+            width: _,
+        } => false,
+        FieldDesc::Count {
+            field_id: _,
+            width: _,
+        } => false,
+        FieldDesc::ElementSize {
+            field_id: _,
+            width: _,
+        } => false,
+        FieldDesc::Body => false,
+        FieldDesc::Payload { size_modifier: _ } => false,
+        FieldDesc::FixedScalar { width: _, value: _ } => false,
+        FieldDesc::FixedEnum { enum_id, tag_id: _ } => lacks(rec, places, n, Role::Enum, enum_id),
+        FieldDesc::Reserved { width: _ } => false,
+        FieldDesc::Array {
+            id: _,
+            width: _,
+            type_id,
+            size_modifier: _,
+            size: _,
+        } => bad_name(rec, places, n, Role::Anything, type_id),
+        FieldDesc::Scalar { id: _, width: _ } => false,
+        FieldDesc::Flag { id: _ } => false,
+        FieldDesc::Typedef { id: _, type_id } => lacks(rec, places, n, Role::Anything, type_id),
+    }
+}
+
+// The types of m fields, whose places the table has from `base` on.
+fn bad_types(
+    rec: &[u8],
+    places: &[usize],
+    n: usize,
+    fields: &[usize],
+    base: usize,
+    m: usize,
+) -> bool
+    requires { ⌜ base + m ≤ 4096 ⌝ }
+    ensures { λ r. ⌜ r ≡ any (badFieldType (now (rec .entry)) (bare (now (rec .entry)) (now (places .entry)) n)) (fieldsFrom (now (rec .entry)) (now (fields .entry)) base m) ⌝ }
+{
+    let mut k = 0;
+    while k < m {
+        let at = places::get(fields, base + k);
+        let f = places::field_here(rec, at);
+        let desc = f.desc;
+        if bad_type(rec, places, n, desc) {
+            return true;
+        }
+        k += 1;
+    }
+    false
+}
+
+// `parent_id` of a packet or struct.
+fn parent_id(desc: DeclDesc) -> MaybePart
+    ensures { λ r. ⌜ r ≡ parentId desc ⌝ }
+{
+    match desc {
+        DeclDesc::Checksum { width: _ } => MaybePart::None,
+        DeclDesc::CustomField { width: _ } => MaybePart::None,
+        DeclDesc::Enum {
+            width: _,
+            open: _,
+            complete: _,
+        } => MaybePart::None,
+        DeclDesc::Packet { parent_id } => parent_id,
+        DeclDesc::Struct { parent_id } => parent_id,
+    }
+}
+
+// The parent and the types of the declaration with the index i.
+fn bad_names(rec: &[u8], places: &[usize], fields: &[usize], counts: &[usize], i: usize) -> bool
+    requires { ⌜ i ≤ 32 ⌝ }
+    requires { ⌜ getD (now counts) i 0 ≤ 64 ⌝ }
+    ensures { λ r. ⌜ r ≡ badNames (now (rec .entry)) (bare (now (rec .entry)) (now (places .entry)) i) (declarationIn (now (rec .entry)) (now (places .entry)) (now (fields .entry)) (now (counts .entry)) i) ⌝ }
+{
+    let at = places::get(places, i);
+    let d = places::decl_here(rec, at);
+    let desc = d.desc;
+    let parent = parent_id(desc);
+    if bad_name(rec, places, i, Role::Frame, parent) {
+        return true;
+    }
+    let m = places::get(counts, i);
+    bad_types(rec, places, i, fields, i * 64, m)
+}
+
+// A name of the first n declarations, where 3 is not met.
+pub fn unknown_name(
+    rec: &[u8],
+    places: &[usize],
+    fields: &[usize],
+    counts: &[usize],
+    n: usize,
+) -> bool
+    requires { ⌜ tooMany (counted (now counts) n) ≡ false ⌝ }
+    ensures { λ r. ⌜ r ≡ unknownName (now (rec .entry)) (declarationsFrom (now (rec .entry)) (now (places .entry)) (now (fields .entry)) (now (counts .entry)) 0 n) ⌝ }
+{
+    let mut i = 0;
+    while i < n {
+        if bad_names(rec, places, fields, counts, i) {
+            return true;
+        }
+        i += 1;
+    }
+    false
+}

@@ -1,0 +1,88 @@
+-- Refusals 7 to 9, one after the other, and that they are the rest of `verdict` where none of 3 to 6 is met.
+-- Assumes nothing.
+use Prim.Native.Nat.{ℕ}
+use mathlib.Core.Bool.{Bool, true, false, not}
+use mathlib.Core.List.{List}
+use mathlib.Core.Path.{_≡_, refl, sym, ap, _∙_}
+use Rattle.definitions.specs.Bytes.{Text, any}
+use Rattle.definitions.specs.Record.{Declaration, isFound}
+use Rattle.definitions.specs.Sizes.{Schema, newSchema}
+use Rattle.definitions.specs.Refusals.{tooMany, duplicateName, unknownName, outOfRange, large, ragged, noTarget, isTarget, refuseIf, verdict}
+use Rattle.definitions.specs.declared.Found.{Found}
+use Rattle.definitions.specs.declared.Head.{Head}
+use Rattle.definitions.specs.declared.Refusal.{Refusal}
+use Rattle.definitions.specs.declared.Verdict.{Verdict}
+use Rattle.schema.specs.Entries.{entriesFrom, Sized}
+use Rattle.sizes.specs.Answers.{targetFrom, targetOr, behindSchema, checkSizes, sizesVerdict, Checked}
+use Rattle.sizes.specs.declared.Sizing.{Sizing}
+use Rattle.sizes.proofs.Targets.{found-any}
+
+module _ (s : Text) (h : Head) (p f c own par pay : List ℕ) (n : ℕ) {b : Bool} (eb : b ≡ ragged s (entriesFrom s p f c own par pay 0 n)) where
+  tested : {t : Bool} → b ≡ t
+      → _≡_ {A = Sizing} (elim t [ true ↦ Sizing.Refuse Refusal.NotWholeBytes | false ↦ targetOr (targetFrom s (h .target) 0 (entriesFrom s p f c own par pay 0 n)) ])
+      (behindSchema s h (entriesFrom s p f c own par pay 0 n))
+  unfolding behindSchema
+  tested ht =
+      ap (λ (t : Bool). elim t [ true ↦ Sizing.Refuse Refusal.NotWholeBytes | false ↦ targetOr (targetFrom s (h .target) 0 (entriesFrom s p f c own par pay 0 n)) ]) (sym ht ∙ eb)
+
+  pub behind-ragged : b ≡ true → Sizing.Refuse Refusal.NotWholeBytes ≡ behindSchema s h (entriesFrom s p f c own par pay 0 n)
+  behind-ragged hb = tested hb
+
+  module _ (hb : b ≡ false) {r : Found} (er : (f c own par pay : List ℕ) → r ≡ targetFrom s (h .target) 0 (entriesFrom s p f c own par pay 0 n)) where
+    pub behind-none : r ≡ Found.Nothing → Sizing.Refuse Refusal.NoTarget ≡ behindSchema s h (entriesFrom s p f c own par pay 0 n)
+    behind-none hr = ap targetOr (sym hr ∙ er f c own par pay) ∙ tested hb
+
+    pub behind-target : {i : ℕ} → r ≡ Found.At i → Sizing.Target i ≡ behindSchema s h (entriesFrom s p f c own par pay 0 n)
+    behind-target hr = ap targetOr (sym hr ∙ er f c own par pay) ∙ tested hb
+
+module _ (s : Text) (h : Head) (ds : List Declaration) (entries : Schema) {b : Bool} (z : Sized s ds entries b) where
+  pub checked-large : b ≡ true → Checked s h ds entries (Sizing.Refuse Refusal.TooLarge)
+  unfolding checkSizes
+  checked-large hb = record {
+    answer = ap (λ (t : Bool). elim t [ true ↦ Sizing.Refuse Refusal.TooLarge | false ↦ behindSchema s h (newSchema s ds) ]) (sym hb ∙ z .answer);
+    tables = z .tables;
+  }
+
+  pub checked-fine : b ≡ false → {r : Sizing} → r ≡ behindSchema s h entries → Checked s h ds entries r
+  unfolding checkSizes
+  checked-fine hb er = record {
+    answer =
+        er ∙ ap (behindSchema s h) (z .tables (sym (z .answer) ∙ hb))
+        ∙ ap (λ (t : Bool). elim t [ true ↦ Sizing.Refuse Refusal.TooLarge | false ↦ behindSchema s h (newSchema s ds) ]) (sym hb ∙ z .answer);
+    tables = z .tables;
+  }
+
+-- ---- the rest of `verdict`
+
+module _ (s : Text) (h : Head) (schema : Schema) where
+  target-verdict : (r : Found) → sizesVerdict (targetOr r) ≡ refuseIf (not (isFound r)) Refusal.NoTarget Verdict.Pass
+  target-verdict (Found.At i) = refl
+  target-verdict Found.Nothing = refl
+
+  behind-verdict : sizesVerdict (behindSchema s h schema) ≡ refuseIf (ragged s schema) Refusal.NotWholeBytes (refuseIf (noTarget s h schema) Refusal.NoTarget Verdict.Pass)
+  unfolding behindSchema noTarget
+  behind-verdict = by (ragged s schema)
+    where
+      by : (b : Bool) → sizesVerdict (elim b [ true ↦ Sizing.Refuse Refusal.NotWholeBytes | false ↦ targetOr (targetFrom s (h .target) 0 schema) ])
+          ≡ refuseIf b Refusal.NotWholeBytes (refuseIf (not (any (isTarget s h) schema)) Refusal.NoTarget Verdict.Pass)
+      by true = refl
+      by false =
+          target-verdict (targetFrom s (h .target) 0 schema)
+          ∙ ap (λ (b : Bool). refuseIf (not b) Refusal.NoTarget Verdict.Pass) (found-any s h 0 schema)
+
+  pub sizes-verdict : sizesVerdict (checkSizes s h schema)
+      ≡ refuseIf (large schema) Refusal.TooLarge
+      (refuseIf (ragged s schema) Refusal.NotWholeBytes (refuseIf (noTarget s h schema) Refusal.NoTarget Verdict.Pass))
+  unfolding checkSizes
+  sizes-verdict = by (large schema)
+    where
+      by : (b : Bool) → sizesVerdict (elim b [ true ↦ Sizing.Refuse Refusal.TooLarge | false ↦ behindSchema s h schema ])
+          ≡ refuseIf b Refusal.TooLarge
+          (refuseIf (ragged s schema) Refusal.NotWholeBytes (refuseIf (noTarget s h schema) Refusal.NoTarget Verdict.Pass))
+      by true = refl
+      by false = behind-verdict
+
+  pub verdict-behind : (ds : List Declaration) → tooMany ds ≡ false → duplicateName s ds ≡ false → unknownName s ds ≡ false → outOfRange ds ≡ false
+      → verdict s h ds schema ≡ sizesVerdict (checkSizes s h schema)
+  unfolding verdict
+  verdict-behind ds many twice names numbers = rw (verdict, many, twice, names, numbers) (sym sizes-verdict)

@@ -1,0 +1,56 @@
+-- Refusals 7 to 9 as the code answers them: the first that is met, or the index of the target.
+-- Assumes nothing.
+use mathlib.Core.Bool.{Bool, true, false, _&&_}
+use mathlib.Core.List.{List, [], _∷_}
+use mathlib.Core.Path.{_≡_}
+use Prim.Native.Nat.{ℕ, _+_}
+use Rattle.definitions.specs.Bytes.{Text, any}
+use Rattle.definitions.specs.Record.{Declaration}
+use Rattle.definitions.specs.Sizes.{Schema, Row, sameName, newSchema}
+use Rattle.definitions.specs.Refusals.{notWhole, raggedField, ragged, large, isFrame}
+use Rattle.definitions.specs.declared.Field.{Field}
+use Rattle.definitions.specs.declared.Found.{Found}
+use Rattle.definitions.specs.declared.Head.{Head}
+use Rattle.definitions.specs.declared.Part.{Part}
+use Rattle.definitions.specs.declared.Refusal.{Refusal}
+use Rattle.definitions.specs.declared.Verdict.{Verdict}
+use Rattle.rows.specs.declared.EnumType.{EnumType}
+use Rattle.sizes.specs.declared.Sizing.{Sizing}
+
+-- `raggedEnum` by value
+abbrev pub raggedType : EnumType → Bool
+raggedType (EnumType.Enum width isOpen isComplete) = notWhole width
+raggedType EnumType.None = false
+
+-- 8 in one declaration
+unfoldable pub raggedFields : Text → List Row → List Field → Bool
+raggedFields s rows fs = any (raggedField s rows) fs
+
+-- the index of the first packet or struct with the target's name, where the first of the list has index i
+unfoldable pub targetFrom : Text → Part → ℕ → Schema → Found
+targetFrom s name i [] = Found.Nothing
+targetFrom s name i (e ∷ es) =
+    elim (sameName s (e .row .decl .id) name && isFrame (e .row .decl .desc)) [ true ↦ Found.At i | false ↦ targetFrom s name (i + 1) es ]
+
+-- 9
+abbrev pub targetOr : Found → Sizing
+targetOr (Found.At i) = Sizing.Target i
+targetOr Found.Nothing = Sizing.Refuse Refusal.NoTarget
+
+-- 8 and 9
+unfoldable pub behindSchema : Text → Head → Schema → Sizing
+behindSchema s h schema = elim (ragged s schema) [ true ↦ Sizing.Refuse Refusal.NotWholeBytes | false ↦ targetOr (targetFrom s (h .target) 0 schema) ]
+
+-- 7 to 9
+unfoldable pub checkSizes : Text → Head → Schema → Sizing
+checkSizes s h schema = elim (large schema) [ true ↦ Sizing.Refuse Refusal.TooLarge | false ↦ behindSchema s h schema ]
+
+-- what it says of the record (proofs/Verdicts: `verdict` where none of 3 to 6 is met)
+abbrev pub sizesVerdict : Sizing → Verdict
+sizesVerdict (Sizing.Target i) = Verdict.Pass
+sizesVerdict (Sizing.Refuse why) = Verdict.Refuse why
+
+-- the answer for the declarations `ds`, and where 7 is not met the tables give all of `Schema`, entry by entry
+pub record Checked (s : Text) (h : Head) (ds : List Declaration) (entries : Schema) (r : Sizing) : Type 0 where
+  pub answer : r ≡ checkSizes s h (newSchema s ds)
+  pub tables : large (newSchema s ds) ≡ false → entries ≡ newSchema s ds

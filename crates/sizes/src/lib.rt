@@ -1,0 +1,380 @@
+// `element_size` (analyzer.rs), refusals 8 and 9, and refusals 7 to 9 one after the other over the tables of a record.
+
+use definitions::Cond;
+use definitions::Decl;
+use definitions::DeclDesc;
+use definitions::ElementSize;
+use definitions::Field;
+use definitions::FieldDesc;
+use definitions::Found;
+use definitions::Head;
+use definitions::MaybeNumber;
+use definitions::MaybePart;
+use definitions::Part;
+use definitions::Refusal;
+use definitions::Size;
+use rows::EnumType;
+ghost use mathlib.Core.Path.{_≡_};
+ghost use mathlib.Core.Bool.{_&&_};
+ghost use mathlib.Core.List.{List};
+ghost use Prim.Native.Nat.{ℕ, _*_, _≤_};
+ghost use lib.ListN.{length};
+ghost use Rattle.definitions.specs.Sizes.{sameName, typedElement, elementSize};
+ghost use Rattle.definitions.specs.Refusals.{notWhole, raggedSize, raggedArray, isOptional, raggedDesc, raggedField, ragged, isFrame};
+ghost use Rattle.definitions.specs.Tables.{fieldsFrom, rowsFrom, declarationsFrom};
+ghost use Rattle.definitions.specs.declared.Size.{Size};
+ghost use Rattle.schema.specs.Entries.{entriesFrom};
+ghost use Rattle.sizes.specs.Answers.{raggedType, raggedFields, targetFrom, behindSchema, Checked};
+
+// ---- `element_size`
+
+fn typed_element(size: Size, given: bool) -> ElementSize
+    ensures { λ r. ⌜ r ≡ typedElement size given ⌝ }
+{
+    match size {
+        Size::Static(width) => ElementSize::Static(width / 8),
+        Size::Dynamic => if given {
+            ElementSize::Dynamic
+        } else {
+            ElementSize::Unknown
+        },
+        Size::Unknown => if given {
+            ElementSize::Dynamic
+        } else {
+            ElementSize::Unknown
+        },
+    }
+}
+
+// Of the array `id`, in the declaration with the index i and n fields.
+pub fn element_size(
+    rec: &[u8],
+    places: &[usize],
+    own: &[u64],
+    parents: &[u64],
+    payloads: &[u64],
+    fields: &[usize],
+    i: usize,
+    n: usize,
+    id: Part,
+    width: MaybeNumber,
+    type_id: MaybePart,
+) -> ElementSize
+    ensures { λ r. ⌜ r ≡ elementSize (now (rec .entry)) (rowsFrom (now (rec .entry)) (now (places .entry)) (now (own .entry)) (now (parents .entry)) (now (payloads .entry)) 0 i) (fieldsFrom (now (rec .entry)) (now (fields .entry)) (i * 64) n) id width «type_id» ⌝ }
+{
+    match width {
+        MaybeNumber::Some(bits) => ElementSize::Static(bits / 8),
+        MaybeNumber::None => match type_id {
+            MaybePart::Some(name) => {
+                let size = rows::total_of(rec, places, own, parents, payloads, i, name);
+                typed_element(size, references::has_element_size(rec, fields, i, n, id))
+            }
+            MaybePart::None => ElementSize::Unknown,
+        },
+    }
+}
+
+// ---- 8: an element or an optional scalar or enum of no whole bytes
+
+fn not_whole(bits: u64) -> bool
+    ensures { λ r. ⌜ r ≡ notWhole bits ⌝ }
+{
+    bits % 8 != 0
+}
+
+fn ragged_bits(bits: u64) -> bool
+    ensures { λ r. ⌜ r ≡ raggedSize (Size.Static bits) ⌝ }
+{
+    if bits == 0 {
+        return true;
+    }
+    not_whole(bits)
+}
+
+fn ragged_size(size: Size) -> bool
+    ensures { λ r. ⌜ r ≡ raggedSize size ⌝ }
+{
+    match size {
+        Size::Static(bits) => ragged_bits(bits),
+        Size::Dynamic => false,
+        Size::Unknown => false,
+    }
+}
+
+fn ragged_array(
+    rec: &[u8],
+    places: &[usize],
+    own: &[u64],
+    parents: &[u64],
+    payloads: &[u64],
+    i: usize,
+    width: MaybeNumber,
+    type_id: MaybePart,
+) -> bool
+    ensures { λ r. ⌜ r ≡ raggedArray (now (rec .entry)) (rowsFrom (now (rec .entry)) (now (places .entry)) (now (own .entry)) (now (parents .entry)) (now (payloads .entry)) 0 i) width «type_id» ⌝ }
+{
+    match width {
+        MaybeNumber::Some(bits) => ragged_bits(bits),
+        MaybeNumber::None => match type_id {
+            MaybePart::Some(name) => ragged_size(rows::total_of(
+                rec,
+                places,
+                own,
+                parents,
+                payloads,
+                i,
+                name,
+            )),
+            MaybePart::None => false,
+        },
+    }
+}
+
+fn ragged_type(of: EnumType) -> bool
+    ensures { λ r. ⌜ r ≡ raggedType of ⌝ }
+{
+    match of {
+        EnumType::Enum {
+            width,
+            open: _,
+            complete: _,
+        } => not_whole(width),
+        EnumType::None => false,
+    }
+}
+
+fn both(a: bool, b: bool) -> bool
+    ensures { λ r. ⌜ r ≡ (a && b) ⌝ }
+{
+    if a {
+        return b;
+    }
+    false
+}
+
+fn ragged_desc(
+    rec: &[u8],
+    places: &[usize],
+    own: &[u64],
+    parents: &[u64],
+    payloads: &[u64],
+    i: usize,
+    optional: bool,
+    desc: FieldDesc,
+) -> bool
+    ensures { λ r. ⌜ r ≡ raggedDesc (now (rec .entry)) (rowsFrom (now (rec .entry)) (now (places .entry)) (now (own .entry)) (now (parents .entry)) (now (payloads .entry)) 0 i) optional desc ⌝ }
+{
+    match desc {
+        FieldDesc::Checksum { field_id: _ } => false,
+        FieldDesc::Padding { size: _ } => false,
+        FieldDesc::Size {
+            field_id: _,
+            width: _,
+        } => false,
+        FieldDesc::Count {
+            field_id: _,
+            width: _,
+        } => false,
+        FieldDesc::ElementSize {
+            field_id: _,
+            width: _,
+        } => false,
+        FieldDesc::Body => false,
+        FieldDesc::Payload { size_modifier: _ } => false,
+        FieldDesc::FixedScalar { width: _, value: _ } => false,
+        FieldDesc::FixedEnum {
+            enum_id: _,
+            tag_id: _,
+        } => false,
+        FieldDesc::Reserved { width: _ } => false,
+        FieldDesc::Array {
+            id: _,
+            width,
+            type_id,
+            size_modifier: _,
+            size: _,
+        } => ragged_array(rec, places, own, parents, payloads, i, width, type_id),
+        FieldDesc::Scalar { id: _, width } => both(optional, not_whole(width)),
+        FieldDesc::Flag { id: _ } => false,
+        FieldDesc::Typedef { id: _, type_id } => both(
+            optional,
+            ragged_type(rows::enum_of(rec, places, i, type_id)),
+        ),
+    }
+}
+
+fn is_optional(cond: Cond) -> bool
+    ensures { λ r. ⌜ r ≡ isOptional cond ⌝ }
+{
+    match cond {
+        Cond::None => false,
+        Cond::Some { id: _, value: _ } => true,
+    }
+}
+
+fn ragged_field(
+    rec: &[u8],
+    places: &[usize],
+    own: &[u64],
+    parents: &[u64],
+    payloads: &[u64],
+    i: usize,
+    f: Field,
+) -> bool
+    ensures { λ r. ⌜ r ≡ raggedField (now (rec .entry)) (rowsFrom (now (rec .entry)) (now (places .entry)) (now (own .entry)) (now (parents .entry)) (now (payloads .entry)) 0 i) f ⌝ }
+{
+    let cond = f.cond;
+    let desc = f.desc;
+    ragged_desc(
+        rec,
+        places,
+        own,
+        parents,
+        payloads,
+        i,
+        is_optional(cond),
+        desc,
+    )
+}
+
+fn ragged_fields(
+    rec: &[u8],
+    places: &[usize],
+    own: &[u64],
+    parents: &[u64],
+    payloads: &[u64],
+    fields: &[usize],
+    i: usize,
+    n: usize,
+) -> bool
+    ensures { λ r. ⌜ r ≡ raggedFields (now (rec .entry)) (rowsFrom (now (rec .entry)) (now (places .entry)) (now (own .entry)) (now (parents .entry)) (now (payloads .entry)) 0 i) (fieldsFrom (now (rec .entry)) (now (fields .entry)) (i * 64) n) ⌝ }
+{
+    let mut k = 0;
+    while k < n {
+        let f = references::field_in(rec, fields, i, k);
+        if ragged_field(rec, places, own, parents, payloads, i, f) {
+            return true;
+        }
+        k += 1;
+    }
+    false
+}
+
+pub fn ragged(
+    rec: &[u8],
+    places: &[usize],
+    own: &[u64],
+    parents: &[u64],
+    payloads: &[u64],
+    fields: &[usize],
+    counts: &[usize],
+    n: usize,
+) -> bool
+    ensures { λ r. ⌜ r ≡ ragged (now (rec .entry)) (entriesFrom (now (rec .entry)) (now (places .entry)) (now (fields .entry)) (now (counts .entry)) (now (own .entry)) (now (parents .entry)) (now (payloads .entry)) 0 n) ⌝ }
+{
+    let mut i = 0;
+    while i < n {
+        let m = places::get(counts, i);
+        if ragged_fields(rec, places, own, parents, payloads, fields, i, m) {
+            return true;
+        }
+        i += 1;
+    }
+    false
+}
+
+// ---- 9: the target is no packet or struct; no size and no field is looked at, so any other tables will do
+
+fn is_frame(desc: DeclDesc) -> bool
+    ensures { λ r. ⌜ r ≡ isFrame desc ⌝ }
+{
+    match desc {
+        DeclDesc::Checksum { width: _ } => false,
+        DeclDesc::CustomField { width: _ } => false,
+        DeclDesc::Enum {
+            width: _,
+            open: _,
+            complete: _,
+        } => false,
+        DeclDesc::Packet { parent_id: _ } => true,
+        DeclDesc::Struct { parent_id: _ } => true,
+    }
+}
+
+fn is_target(rec: &[u8], name: Part, d: Decl) -> bool
+    ensures { λ r. ⌜ r ≡ (sameName (now (rec .entry)) (d .id) name && isFrame (d .desc)) ⌝ }
+{
+    let id = d.id;
+    let desc = d.desc;
+    both(names::same_name(rec, id, name), is_frame(desc))
+}
+
+// The index of the first packet or struct with the target's name.
+pub fn target(rec: &[u8], name: Part, places: &[usize], n: usize) -> Found
+    ensures { λ r. ⌜ ((fields counts own parents payloads : List ℕ) → r ≡ targetFrom (now (rec .entry)) name 0 (entriesFrom (now (rec .entry)) (now (places .entry)) fields counts own parents payloads 0 n)) ⌝ }
+{
+    let mut i = 0;
+    while i < n {
+        let at = places::get(places, i);
+        let d = places::decl_here(rec, at);
+        if is_target(rec, name, d) {
+            return Found::At(i);
+        }
+        i += 1;
+    }
+    Found::Nothing
+}
+
+// ---- 7 to 9, each over the whole record before the next
+
+// The target's index, or the first refusal.
+pub enum Sizing {
+    Target(usize),
+    Refuse(Refusal),
+}
+
+fn behind_schema(
+    rec: &[u8],
+    head: Head,
+    places: &[usize],
+    own: &[u64],
+    parents: &[u64],
+    payloads: &[u64],
+    fields: &[usize],
+    counts: &[usize],
+    n: usize,
+) -> Sizing
+    ensures { λ r. ⌜ r ≡ behindSchema (now (rec .entry)) head (entriesFrom (now (rec .entry)) (now (places .entry)) (now (fields .entry)) (now (counts .entry)) (now (own .entry)) (now (parents .entry)) (now (payloads .entry)) 0 n) ⌝ }
+{
+    if ragged(rec, places, own, parents, payloads, fields, counts, n) {
+        return Sizing::Refuse(Refusal::NotWholeBytes);
+    }
+    let name = head.target;
+    let Found::At(i) = target(rec, name, places, n) else {
+        return Sizing::Refuse(Refusal::NoTarget);
+    };
+    Sizing::Target(i)
+}
+
+// The tables of the n declarations are filled; where 7 is not met they hold all of `Schema`.
+pub fn check_sizes(
+    rec: &[u8],
+    head: Head,
+    places: &[usize],
+    fields: &[usize],
+    counts: &[usize],
+    n: usize,
+    own: &mut [u64],
+    parents: &mut [u64],
+    payloads: &mut [u64],
+) -> Sizing
+    requires { ⌜ n ≤ length (now own) ⌝ }
+    requires { ⌜ n ≤ length (now parents) ⌝ }
+    requires { ⌜ n ≤ length (now payloads) ⌝ }
+    ensures { λ r. ⌜ Checked (now (rec .entry)) head (declarationsFrom (now (rec .entry)) (now (places .entry)) (now (fields .entry)) (now (counts .entry)) 0 n) (entriesFrom (now (rec .entry)) (now (places .entry)) (now (fields .entry)) (now (counts .entry)) (now (own .exit)) (now (parents .exit)) (now (payloads .exit)) 0 n) r ⌝ }
+{
+    if schema::schema(rec, places, fields, counts, n, own, parents, payloads) {
+        return Sizing::Refuse(Refusal::TooLarge);
+    }
+    behind_schema(rec, head, places, own, parents, payloads, fields, counts, n)
+}

@@ -1,0 +1,77 @@
+//! The answer to any byte string: our refusals 1 to 9, then what the published Rust gives.
+
+use crate::analyzer::{Schema, Scope};
+use crate::ast;
+use crate::backends::cxx::field_parser::{self, Panic};
+use crate::published;
+use crate::record::{Decl, Record};
+use crate::refusals::{self, Refusal};
+use crate::sizes::Tables;
+
+/// What the program `lower` lends.
+pub const BUFFER: usize = 65_536;
+
+/// The lines as bytes, each with its newline, or the first of refusals 1 to 14.
+pub type Answer = Result<Vec<u8>, Refusal>;
+
+/// The answer, after checking our tables of sizes against the published ones.
+pub fn answer(bytes: &[u8]) -> Answer {
+    judge(bytes, published::assert_equal_tables)
+}
+
+/// The same answer without that check, for timing.
+pub fn answer_unchecked(bytes: &[u8]) -> Answer {
+    judge(bytes, |_, _, _| ())
+}
+
+/// The number and the lines for a buffer of this length: here refusal 15 comes in.
+pub fn within(buffer: usize, answer: &Answer) -> (u8, &[u8]) {
+    match answer {
+        Ok(lines) if lines.len() > buffer => (15, &[]),
+        Ok(lines) => (0, lines),
+        Err(refusal) => (refusal.number, &[]),
+    }
+}
+
+fn judge(bytes: &[u8], check: impl Fn(&ast::File, &Schema, &Tables)) -> Answer {
+    let record = refusals::of_the_text(bytes)?;
+    let tables = Tables::new(&record);
+    refusals::of_the_sizes(&tables)?;
+
+    let file = published::file(&record);
+    let scope = Scope::new(&file).expect("refusal 4 lets no name pass twice");
+    let schema = Schema::new(&file);
+    check(&file, &schema, &tables);
+
+    refusals::of_the_target(&record, &tables)?;
+    let target = scope.typedef[&record.target];
+    match field_parser::lines(&scope, &schema, record.arrays, target) {
+        Ok(code) => Ok(joined(&code)),
+        Err(panic) => Err(of_panic(&record, panic)),
+    }
+}
+
+fn joined(code: &[String]) -> Vec<u8> {
+    code.iter().fold(String::new(), |text, line| text + line + "\n").into_bytes()
+}
+
+/// Refusals 10 to 14: the panics of the published Rust, known by their messages.
+fn of_panic(record: &Record, panic: Panic) -> Refusal {
+    let numbers = [
+        ("assertion failed: self.unchecked_code.is_empty()", 10),
+        ("assertion failed: self.chunk.is_empty()", 10),
+        ("Typedef field does not start on an octet boundary", 11),
+        ("Payload field does not start on an octet boundary", 11),
+        ("PDL type does not fit on non-extended scalar types: ", 12),
+        ("Unsupported optional field type", 13),
+        ("Multiple unknown size fields in ", 14),
+    ];
+    let known = numbers.iter().find(|(message, _)| panic.message.starts_with(message));
+    let Some((_, number)) = known else {
+        panic!("the published Rust panics with an unknown message: {}", panic.message);
+    };
+    let target = record.find(&record.target);
+    let field = target.map_or(&[][..], Decl::fields).get(panic.at);
+    let place = field.map_or("the end", |field| field.desc.kind());
+    Refusal { number: *number, because: format!("at {place}") }
+}

@@ -1,0 +1,134 @@
+//! What a case shows: its answer and why, and for an accepted one the kinds and shapes in it.
+//! `histogram` counts features; `select` chooses cases by them.
+
+use crate::analyzer::{self, ArraySize, ElementSize, Schema, Scope};
+use crate::answer::Answer;
+use crate::published;
+use crate::record::{Arrays, Decl, DeclDesc, Element, Endian, Field, FieldDesc, Record};
+use std::collections::BTreeSet;
+
+pub fn features(bytes: &[u8], answer: &Answer) -> BTreeSet<String> {
+    let mut found = BTreeSet::new();
+    match answer {
+        Ok(lines) => {
+            found.insert("answer 00".to_string());
+            let record = Record::read(bytes).expect("it was accepted");
+            of_accepted(&record, lines, &mut found);
+        }
+        Err(refusal) => {
+            found.insert(format!("answer {:02}", refusal.number));
+            found.insert(format!("because {:02} {}", refusal.number, refusal.because));
+            if let (10..=14, Ok(record)) = (refusal.number, Record::read(bytes)) {
+                of_target(&record, "refused", &mut found);
+            }
+        }
+    }
+    found
+}
+
+fn of_accepted(record: &Record, lines: &[u8], found: &mut BTreeSet<String>) {
+    let endian = match record.endian {
+        Endian::Little => "little",
+        Endian::Big => "big",
+    };
+    found.insert(format!("endian {endian}"));
+    found.insert(format!("mode {}", mode(record)));
+    found.extend(record.decls.iter().map(|decl| format!("declaration {}", decl_kind(decl))));
+    let children = record.decls.iter().filter(|decl| has_parent(decl));
+    found.extend(children.map(|decl| format!("declaration {} with parent", decl.kind())));
+    found.extend(target(record).map(|decl| format!("target {}", decl.kind())));
+    of_target(record, "accepted", found);
+    found.extend(array_shapes(record));
+    found.extend(reads(lines));
+}
+
+fn mode(record: &Record) -> &'static str {
+    match record.arrays {
+        Arrays::Lite => "lite",
+        Arrays::Full => "full",
+    }
+}
+
+fn target(record: &Record) -> Option<&Decl> {
+    record.find(&record.target)
+}
+
+fn of_target(record: &Record, outcome: &str, found: &mut BTreeSet<String>) {
+    for field in target(record).map_or(&[][..], Decl::fields) {
+        found.insert(format!("field {} {outcome}", field_kind(record, field)));
+    }
+}
+
+fn field_kind(record: &Record, field: &Field) -> String {
+    let kind = match &field.desc {
+        FieldDesc::Typedef { type_, .. } => format!("typedef of {}", type_kind(record, type_)),
+        other => other.kind().to_string(),
+    };
+    if field.cond.is_some() {
+        format!("optional {kind}")
+    } else {
+        kind
+    }
+}
+
+fn type_kind(record: &Record, name: &str) -> &'static str {
+    record.find(name).map_or("nothing", decl_kind)
+}
+
+fn decl_kind(decl: &Decl) -> &'static str {
+    match &decl.desc {
+        DeclDesc::Enum { open: false, complete: false, .. } => "closed enum",
+        DeclDesc::Enum { open: false, complete: true, .. } => "complete enum",
+        DeclDesc::Enum { open: true, complete: false, .. } => "open enum",
+        DeclDesc::Enum { open: true, complete: true, .. } => "open complete enum",
+        DeclDesc::Custom { width: Some(_) } => "custom with width",
+        DeclDesc::Custom { width: None } => "custom",
+        _ => decl.kind(),
+    }
+}
+
+fn has_parent(decl: &Decl) -> bool {
+    decl.block().is_some_and(|block| block.parent.is_some())
+}
+
+/// The shapes of the target's arrays, alone and with their kind of element.
+fn array_shapes(record: &Record) -> Vec<String> {
+    let file = published::file(record);
+    let scope = Scope::new(&file).expect("it was accepted");
+    let schema = Schema::new(&file);
+    let decl = scope.typedef[&record.target];
+    let fields = decl.fields().zip(target(record).map_or(&[][..], Decl::fields));
+    fields
+        .filter_map(|(field, ours)| match &ours.desc {
+            FieldDesc::Array { element, .. } => Some((field, element)),
+            _ => None,
+        })
+        .flat_map(|(field, element)| {
+            let of_elements = match analyzer::element_size(&scope, &schema, decl, field) {
+                ElementSize::Static(_) => "Static",
+                ElementSize::Dynamic => "Dynamic",
+                ElementSize::Unknown => "Unknown",
+            };
+            let of_array = match analyzer::array_size(decl, field) {
+                ArraySize::StaticCount(_) => "StaticCount",
+                ArraySize::DynamicCount => "DynamicCount",
+                ArraySize::DynamicSize => "DynamicSize",
+                ArraySize::Unknown => "Unknown",
+            };
+            let shape = format!("{} {of_elements} {of_array}", mode(record));
+            let element = match element {
+                Element::Width(_) => "width",
+                Element::Type(type_) => type_kind(record, type_),
+            };
+            let padded = schema.padded_size(field.key).map(|_| format!("padded array {}", mode(record)));
+            [format!("shape {shape}"), format!("element {shape} of {element}")].into_iter().chain(padded)
+        })
+        .collect()
+}
+
+/// The reads in the lines, such as `read_le<uint16_t, 2>`.
+fn reads(lines: &[u8]) -> Vec<String> {
+    let text = String::from_utf8_lossy(lines);
+    let starts = text.match_indices("read_").map(|(at, _)| &text[at..]);
+    starts.filter_map(|rest| rest.split_once('>')).map(|(read, _)| format!("lines {read}>")).collect()
+}

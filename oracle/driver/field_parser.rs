@@ -1,0 +1,69 @@
+//! Asks the published `FieldParser`. It is private to cxx.rs, so the build appends this module
+//! to a copy of that file, as its child.
+
+use super::FieldParser;
+use crate::analyzer::{Schema, Scope};
+use crate::ast;
+use crate::record::Arrays;
+use std::cell::Cell;
+use std::panic::{self, AssertUnwindSafe};
+
+/// A panic of the published code: at which field (at their number: the end), and its message.
+pub struct Panic {
+    pub at: usize,
+    pub message: String,
+}
+
+/// `new`, `parse` for each field of the target in order, and `done`.
+pub fn lines(
+    scope: &Scope,
+    schema: &Schema,
+    arrays: Arrays,
+    target: &ast::Decl,
+) -> Result<Vec<String>, Panic> {
+    let (prefix, extract_arrays) = match arrays {
+        Arrays::Lite => ("", false),
+        Arrays::Full => ("output->", true),
+    };
+    let endian = scope.file.endianness.value;
+    let mut parser = FieldParser::new(scope, schema, endian, prefix, extract_arrays, target);
+    let conditions = target.fields().filter_map(|field| field.cond.as_ref());
+    parser.is_cond_for = conditions.map(|cond| cond.id.clone()).collect();
+
+    let mut at = 0;
+    let parse_all = || {
+        for field in target.fields() {
+            parser.parse(field);
+            at += 1;
+        }
+        parser.done();
+    };
+    match listen(parse_all) {
+        Ok(()) => Ok(parser.code),
+        Err(message) => Err(Panic { at, message }),
+    }
+}
+
+thread_local! {
+    static LISTENING: Cell<bool> = const { Cell::new(false) };
+}
+
+/// Panics inside `listen` print nothing; all others print as ever.
+pub fn install_quiet_hook() {
+    let loud = panic::take_hook();
+    panic::set_hook(Box::new(move |info| {
+        if !LISTENING.get() {
+            loud(info);
+        }
+    }));
+}
+
+fn listen(run: impl FnOnce()) -> Result<(), String> {
+    LISTENING.set(true);
+    let outcome = panic::catch_unwind(AssertUnwindSafe(run));
+    LISTENING.set(false);
+    outcome.map_err(|payload| match payload.downcast::<String>() {
+        Ok(message) => *message,
+        Err(payload) => payload.downcast_ref::<&str>().copied().unwrap_or_default().to_string(),
+    })
+}

@@ -1,0 +1,230 @@
+//! The judge: the published Rust of google/pdl, made to answer records of document 01.
+
+#[allow(dead_code)]
+mod analyzer;
+#[allow(dead_code)]
+mod ast;
+mod backends {
+    pub mod common;
+    #[allow(dead_code)]
+    pub mod cxx;
+}
+
+mod answer;
+mod cases;
+#[cfg(port)]
+mod compare;
+mod damage;
+mod features;
+mod generate;
+mod histogram;
+mod marked;
+#[cfg(port)]
+mod port;
+mod published;
+mod random;
+mod record;
+mod refusals;
+mod sizes;
+mod sketch;
+mod timing;
+
+use answer::{answer, BUFFER};
+use cases::Case;
+use generate::{Flavour, FLAVOURS};
+use histogram::Histogram;
+use std::error::Error;
+use std::io::{self, BufWriter, Read, Write};
+use std::process::ExitCode;
+
+const USAGE: &str = "\
+judge answer < RECORD                the lines, or refused=N
+judge sizes < RECORD                 the tables of sizes, or refused=N
+judge marked > CASES                 the marked cases of document 01, its faults and its limits
+judge generate SEED COUNT FLAVOUR > CASES
+                                     cases by chance: small, mixed, damaged or sizes
+judge select EACH < CASES > CASES    those with a feature that fewer than EACH of the marked cases
+                                     and those chosen before show
+judge replay < CASES                 whether the stored answers are the judge's
+judge digest < CASES                 one number for the size tables of all cases past refusal 9
+judge histogram < CASES              what the cases show
+judge survey SEED COUNT              the same for COUNT generated cases of each flavour
+judge bench SEED COUNT               nanoseconds for each accepted record, of COUNT generated
+judge compare SEED COUNT             the port against the judge: the marked cases, and COUNT
+                                     generated ones of each flavour (see oracle/compare)
+";
+
+type Outcome = Result<ExitCode, Box<dyn Error>>;
+
+fn main() -> Outcome {
+    backends::cxx::field_parser::install_quiet_hook();
+    let arguments: Vec<String> = std::env::args().skip(1).collect();
+    let words: Vec<&str> = arguments.iter().map(String::as_str).collect();
+    match words[..] {
+        ["answer"] => print_answer(),
+        ["sizes"] => print_sizes(),
+        ["marked"] => write_cases(marked::records()),
+        ["generate", seed, count, flavour] => {
+            write_cases(generate::records(named(flavour)?, seed.parse()?, count.parse()?))
+        }
+        ["select", each] => write_selected(each.parse()?),
+        ["replay"] => replay(),
+        ["digest"] => print_digest(),
+        ["histogram"] => print_histogram(),
+        ["survey", seed, count] => survey(seed.parse()?, count.parse()?),
+        ["bench", seed, count] => bench(seed.parse()?, count.parse()?),
+        #[cfg(port)]
+        ["compare", seed, count] => compare_port(seed.parse()?, count.parse()?),
+        _ => {
+            eprint!("{USAGE}");
+            Ok(ExitCode::from(2))
+        }
+    }
+}
+
+fn named(flavour: &str) -> Result<Flavour, String> {
+    let found = FLAVOURS.iter().find(|(name, _)| *name == flavour);
+    found.map(|(_, flavour)| *flavour).ok_or(format!("no flavour: {flavour}"))
+}
+
+fn read_all() -> io::Result<Vec<u8>> {
+    let mut bytes = Vec::new();
+    io::stdin().lock().read_to_end(&mut bytes)?;
+    Ok(bytes)
+}
+
+/// Hands each case of standard input on.
+fn for_each_case(mut each: impl FnMut(Case) -> io::Result<()>) -> io::Result<()> {
+    let mut input = io::stdin().lock();
+    while let Some(case) = Case::read(&mut input)? {
+        each(case)?;
+    }
+    Ok(())
+}
+
+fn print_answer() -> Outcome {
+    match answer::within(BUFFER, &answer(&read_all()?)) {
+        (0, lines) => io::stdout().write_all(lines)?,
+        (number, _) => println!("refused={number}"),
+    }
+    Ok(ExitCode::SUCCESS)
+}
+
+fn print_sizes() -> Outcome {
+    match refusals::of_the_text(&read_all()?) {
+        Ok(record) => print!("{}", sizes::Tables::new(&record).listing(&record)),
+        Err(refusal) => println!("refused={} ({})", refusal.number, refusal.because),
+    }
+    Ok(ExitCode::SUCCESS)
+}
+
+fn write_cases(records: impl IntoIterator<Item = Vec<u8>>) -> Outcome {
+    let mut output = BufWriter::new(io::stdout().lock());
+    for record in records {
+        let answer = answer(&record);
+        Case::new(record, &answer).write(&mut output)?;
+    }
+    output.flush()?;
+    Ok(ExitCode::SUCCESS)
+}
+
+fn write_selected(each: u64) -> Outcome {
+    let mut output = BufWriter::new(io::stdout().lock());
+    let mut seen = Histogram::default();
+    marked::records().iter().for_each(|record| seen.add(record, &answer(record)));
+    for_each_case(|case| {
+        let answer = answer(&case.record);
+        if seen.shows_fewer_than(each, &case.record, &answer) {
+            seen.add(&case.record, &answer);
+            case.write(&mut output)?;
+        }
+        Ok(())
+    })?;
+    output.flush()?;
+    Ok(ExitCode::SUCCESS)
+}
+
+fn replay() -> Outcome {
+    let (mut all, mut wrong) = (0, 0);
+    for_each_case(|case| {
+        let answer = answer(&case.record);
+        let equal = (case.number, &case.lines[..]) == answer::within(BUFFER, &answer);
+        all += 1;
+        wrong += u64::from(!equal);
+        Ok(())
+    })?;
+    println!("{all} cases, {wrong} with another answer");
+    Ok(ExitCode::from(u8::from(wrong > 0)))
+}
+
+/// `answer` has checked the tables against the published `Schema`.
+fn print_digest() -> Outcome {
+    let mut digest = 0;
+    for_each_case(|case| {
+        let answer = answer(&case.record);
+        let (number, _) = answer::within(BUFFER, &answer);
+        if number == 0 || 9 < number {
+            let record = refusals::of_the_text(&case.record).expect("answered past refusal 9");
+            digest = sizes::mixed(digest, sizes::Tables::new(&record).digest());
+        }
+        Ok(())
+    })?;
+    println!("sizes={digest}");
+    Ok(ExitCode::SUCCESS)
+}
+
+fn print_histogram() -> Outcome {
+    let mut histogram = Histogram::default();
+    for_each_case(|case| {
+        histogram.add(&case.record, &answer(&case.record));
+        Ok(())
+    })?;
+    print!("{histogram}");
+    Ok(ExitCode::SUCCESS)
+}
+
+fn survey(seed: u64, count: usize) -> Outcome {
+    let mut histogram = Histogram::default();
+    for (_, flavour) in FLAVOURS {
+        for record in generate::records(flavour, seed, count) {
+            histogram.add(&record, &answer(&record));
+        }
+    }
+    print!("{histogram}");
+    Ok(ExitCode::SUCCESS)
+}
+
+fn bench(seed: u64, count: usize) -> Outcome {
+    let records = timing::accepted(seed, count);
+    println!("{} records answer 0 of {count}", records.len());
+    let lower = |record: &[u8]| answer::answer_unchecked(record).map_or(0, |lines| lines.len());
+    println!("the Rust: {:.0} ns a record", timing::nanoseconds(&records, lower));
+    #[cfg(port)]
+    {
+        let mut buffer = vec![0; BUFFER];
+        let lower = |record: &[u8]| port::call(record, &mut buffer).1;
+        println!("the port: {:.0} ns a record", timing::nanoseconds(&records, lower));
+    }
+    Ok(ExitCode::SUCCESS)
+}
+
+#[cfg(port)]
+fn compare_port(seed: u64, count: usize) -> Outcome {
+    const SHOWN: usize = 5;
+    let mut histogram = Histogram::default();
+    let mut comparison = compare::Comparison::new();
+    let mut differences = 0;
+    let generated = FLAVOURS.iter().flat_map(|(_, flavour)| generate::records(*flavour, seed, count));
+    for record in marked::records().into_iter().chain(generated) {
+        let answer = answer(&record);
+        if let Some(difference) = comparison.difference(&record, &answer) {
+            differences += 1;
+            if differences <= SHOWN {
+                println!("{difference}\n{}", String::from_utf8_lossy(&record));
+            }
+        }
+        histogram.add(&record, &answer);
+    }
+    println!("{histogram}{differences} differ");
+    Ok(ExitCode::from(u8::from(differences > 0)))
+}

@@ -1,0 +1,12 @@
+//! The port, where it is linked (`--cfg port`), called as its build host calls it.
+
+extern "C" {
+    fn lower(record: *const u8, record_length: usize, output: *mut u8, output_length: usize) -> u64;
+}
+
+/// The answer's number and length; `output` holds the lines.
+pub fn call(record: &[u8], output: &mut [u8]) -> (u64, usize) {
+    // SAFETY: both slices are valid for their lengths, and only the second is written.
+    let answer = unsafe { lower(record.as_ptr(), record.len(), output.as_mut_ptr(), output.len()) };
+    (answer >> 32, (answer & 0xffff_ffff) as usize)
+}

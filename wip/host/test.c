@@ -1,0 +1,246 @@
+/*
+ * Tests the exported function from C: the marked cases P1 to P13 of document 01, records that are empty, cut or damaged, buffers of
+ * every relevant size, and the cases of the stored sample, which the published Rust answered (oracle/README.md, 'Cases').
+ *   test SAMPLE
+ * The last line is 'N passed, M failed'; the exit status is 0 if nothing failed.
+ */
+#include <stdarg.h>
+#include <stdio.h>
+#include <stdlib.h>
+#include <string.h>
+
+#include "ruphwenqo.h"
+
+/* ---- what is counted */
+
+static unsigned passed, failed;
+
+static void expect(int ok, const char *what, ...)
+{
+    va_list words;
+    if (ok) {
+        passed++;
+        return;
+    }
+    failed++;
+    fputs("failed: ", stdout);
+    va_start(words, what);
+    vprintf(what, words);
+    va_end(words);
+    putchar('\n');
+}
+
+/* ---- a call, in a buffer whose bytes are all marked before it */
+
+#define AROUND 64 /* bytes on each side of what is lent */
+static uint8_t memory[AROUND + RUPHWENQO_LINES_ROOM + AROUND];
+static uint8_t *const lines = memory + AROUND;
+
+/* No line has a byte of 128 or more. */
+static uint8_t mark(size_t i)
+{
+    return (uint8_t)(128 + i % 128);
+}
+
+/* Whether the bytes of memory behind the first `length` ones of the lines, and those in front of them, are as they were marked. */
+static int unchanged_but(size_t length)
+{
+    for (size_t i = 0; i < sizeof memory; i++)
+        if ((i < AROUND || i >= AROUND + length) && memory[i] != mark(i))
+            return 0;
+    return 1;
+}
+
+/* Whether a record, with `room` bytes lent, gets this answer and these lines, and no other byte is changed. */
+static int gives(const uint8_t *record, size_t record_length, size_t room, uint32_t answer, const uint8_t *text, size_t length)
+{
+    for (size_t i = 0; i < sizeof memory; i++)
+        memory[i] = mark(i);
+    uint64_t number = lower(record, record_length, lines, room);
+    return ruphwenqo_answer(number) == answer && ruphwenqo_length(number) == length && memcmp(lines, text, length) == 0 && unchanged_but(length);
+}
+
+/* The same with each size of buffer: 65,536 bytes, the exact length, one less and none, where 15 is due if there are lines. */
+static int gives_in_every_room(const uint8_t *record, size_t record_length, uint32_t answer, const uint8_t *text, size_t length)
+{
+    return gives(record, record_length, RUPHWENQO_LINES_ROOM, answer, text, length)
+        && gives(record, record_length, length, answer, text, length)
+        && (length == 0 || (gives(record, record_length, length - 1, 15, text, 0) && gives(record, record_length, 0, 15, text, 0)));
+}
+
+/* ---- the marked cases of document 01 */
+
+#define HEAD "endian=little\ntarget=Lamp\narrays=lite\n"
+#define LAMP "decl=packet\nname=Lamp\nparent=-\n"
+#define CELL "decl=struct\nname=Cell\nparent=-\n" SCALAR("c", "8")
+#define SCALAR(id, width) "field=scalar\nid=" id "\nwidth=" width "\nif=-\n"
+#define OPTIONAL(id, width) "field=scalar\nid=" id "\nwidth=" width "\nif=c\nis=1\n"
+#define RESERVED(width) "field=reserved\nwidth=" width "\nif=-\n"
+#define PAYLOAD "field=payload\nmod=-\nif=-\n"
+#define PAYLOAD_SIZE "field=size\nof=_payload_\nwidth=8\nif=-\n"
+#define ARRAY(id, width, count) "field=array\nid=" id "\nwidth=" width "\ntype=-\nmod=-\ncount=" count "\nif=-\n"
+#define PADDING(bytes) "field=padding\nbytes=" bytes "\nif=-\n"
+#define TYPEDEF(id, type) "field=typedef\nid=" id "\ntype=" type "\nif=-\n"
+#define CHECK(bytes) "if (span.size() < " bytes ") {\n    return false;\n}\n"
+#define P1_RUN CHECK("2") "uint16_t chunk0 = span.read_le<uint16_t, 2>();\namps_ = (chunk0 >> 0) & 0xfff;\n"
+
+static const struct {
+    const char *label, *record;
+    uint32_t answer;
+    const char *whole; /* all of the lines, where document 01 gives them, else */
+    const char *part;  /* something that it says of them */
+} marked[] = {
+    {"P1", HEAD LAMP SCALAR("amps", "12") RESERVED("4") PAYLOAD, 0, P1_RUN "payload_ = span;\nspan.clear();\n", NULL},
+    {"P2", HEAD LAMP, 0, "", NULL},
+    {"P3", HEAD LAMP RESERVED("16"), 0, CHECK("2") "span.skip(2); // skip reserved fields\n", NULL},
+    {"P4", HEAD LAMP SCALAR("x", "24"), 0, CHECK("3") "x_ = span.read_le<uint32_t, 3>();\n", NULL},
+    {"P5", HEAD LAMP SCALAR("x", "60") SCALAR("y", "4"), 0, NULL, CHECK("8")},
+    {"P6", HEAD LAMP SCALAR("x", "60") SCALAR("y", "12"), 12, "", NULL},
+    {"P7", HEAD LAMP SCALAR("x", "60") SCALAR("y", "5") SCALAR("z", "7"), 12, "", NULL},
+    {"P8", HEAD LAMP SCALAR("x", "4"), 0, "", NULL},
+    {"P9", HEAD LAMP SCALAR("x", "8") SCALAR("y", "4"), 10, "", NULL},
+    {"P10", HEAD CELL LAMP SCALAR("x", "4") TYPEDEF("t", "Cell"), 11, "", NULL},
+    {"P10, a scalar before", HEAD CELL LAMP SCALAR("x", "8") SCALAR("y", "4") TYPEDEF("t", "Cell"), 10, "", NULL},
+    {"P11", HEAD LAMP PAYLOAD SCALAR("x", "8"), 0, NULL, "if (span.size() < 1) return false;\n"},
+    {"P12", HEAD LAMP PAYLOAD OPTIONAL("x", "8"), 14, "", NULL},
+    {"P12, with a size", HEAD LAMP PAYLOAD_SIZE PAYLOAD OPTIONAL("x", "8"), 0, NULL, CHECK("1")},
+    {"P13", HEAD LAMP PAYLOAD ARRAY("a", "8", "2") PADDING("8"), 0, NULL, "if (span.size() < 2) return false;\n"},
+};
+#define MARKED (sizeof marked / sizeof marked[0])
+
+static void test_marked(void)
+{
+    for (size_t i = 0; i < MARKED; i++) {
+        const uint8_t *record = (const uint8_t *)marked[i].record;
+        size_t length = strlen(marked[i].record);
+        if (marked[i].whole != NULL) {
+            const char *text = marked[i].whole;
+            expect(gives_in_every_room(record, length, marked[i].answer, (const uint8_t *)text, strlen(text)), "%s", marked[i].label);
+        } else {
+            uint64_t number = lower(record, length, lines, RUPHWENQO_LINES_ROOM);
+            size_t part = strlen(marked[i].part);
+            expect(ruphwenqo_answer(number) == marked[i].answer && ruphwenqo_length(number) >= part && memcmp(lines, marked[i].part, part) == 0,
+                   "%s", marked[i].label);
+        }
+    }
+}
+
+/* ---- empty, long, cut and damaged records */
+
+/* What is left of P1's record when it is cut behind `length` bytes is accepted only where a declaration or a field ends. */
+static void test_cut(void)
+{
+    static const char declaration[] = HEAD LAMP, open_chunk[] = HEAD LAMP SCALAR("amps", "12"), run[] = HEAD LAMP SCALAR("amps", "12") RESERVED("4");
+    const char *record = marked[0].record;
+    for (size_t length = 0; length < strlen(record); length++) {
+        uint32_t answer = length == 0 ? 1 : 2;
+        const char *text = "";
+        if (length == strlen(declaration) || length == strlen(open_chunk))
+            answer = 0;
+        if (length == strlen(run)) {
+            answer = 0;
+            text = P1_RUN;
+        }
+        expect(gives_in_every_room((const uint8_t *)record, length, answer, (const uint8_t *)text, strlen(text)), "P1 cut behind %zu bytes", length);
+    }
+}
+
+/* No record has a byte of 255: in each place of P1's record it is a broken line. */
+static void test_damaged(void)
+{
+    uint8_t record[512];
+    size_t length = strlen(marked[0].record);
+    for (size_t i = 0; i < length; i++) {
+        memcpy(record, marked[0].record, length);
+        record[i] = 255;
+        expect(gives(record, length, RUPHWENQO_LINES_ROOM, 2, record, 0), "P1 with byte %zu damaged", i);
+    }
+}
+
+/* Too long is 1 whatever the bytes are; up to the limit the same bytes are a broken line. */
+static void test_long(void)
+{
+    static uint8_t record[RUPHWENQO_RECORD_MAX + 1];
+    memset(record, 'x', sizeof record);
+    expect(gives(record, sizeof record, RUPHWENQO_LINES_ROOM, 1, record, 0), "16,385 bytes");
+    expect(gives(record, sizeof record - 1, RUPHWENQO_LINES_ROOM, 2, record, 0), "16,384 bytes, no record");
+    memcpy(record, marked[0].record, strlen(marked[0].record));
+    expect(gives(record, sizeof record, RUPHWENQO_LINES_ROOM, 1, record, 0), "16,385 bytes that begin with P1");
+    expect(gives(record, 0, 0, 1, record, 0), "nothing at all");
+}
+
+/* ---- the stored sample */
+
+/* The number that ends at the byte `stop`; *at goes behind it. Any other text ends the test. */
+static size_t number_before(const uint8_t *file, size_t size, size_t *at, char stop)
+{
+    size_t value = 0, first = *at;
+    for (; *at < size && file[*at] >= '0' && file[*at] <= '9' && value < size; ++*at)
+        value = value * 10 + (file[*at] - '0');
+    if (*at == first || *at == size || file[*at] != (uint8_t)stop) {
+        printf("the sample has no number at byte %zu\n", first);
+        exit(2);
+    }
+    ++*at;
+    return value;
+}
+
+static void test_sample(const uint8_t *file, size_t size)
+{
+    size_t n = 0;
+    for (size_t at = 0; at < size; n++) {
+        size_t answer = number_before(file, size, &at, ' ');
+        size_t record_length = number_before(file, size, &at, ' ');
+        size_t length = number_before(file, size, &at, '\n');
+        if (record_length > size - at || length > size - at - record_length || length > RUPHWENQO_LINES_ROOM) {
+            printf("the sample is cut short in case %zu\n", n);
+            exit(2);
+        }
+        const uint8_t *record = file + at, *text = record + record_length;
+        at += record_length + length;
+        expect(gives_in_every_room(record, record_length, (uint32_t)answer, text, length), "case %zu of the sample", n);
+        if (n < MARKED)
+            expect(record_length == strlen(marked[n].record) && memcmp(record, marked[n].record, record_length) == 0,
+                   "case %zu of the sample is not %s", n, marked[n].label);
+    }
+    expect(n >= MARKED, "the sample has %zu cases only", n);
+}
+
+/* All bytes of a file, or the end of the test. */
+static uint8_t *read_file(const char *name, size_t *size)
+{
+    FILE *file = fopen(name, "rb");
+    size_t room = 1 << 20;
+    uint8_t *bytes = malloc(room);
+    *size = 0;
+    while (file != NULL && bytes != NULL) {
+        *size += fread(bytes + *size, 1, room - *size, file);
+        if (*size < room)
+            break;
+        bytes = realloc(bytes, room *= 2);
+    }
+    if (file == NULL || bytes == NULL || ferror(file)) {
+        perror(name);
+        exit(2);
+    }
+    fclose(file);
+    return bytes;
+}
+
+int main(int argc, char **argv)
+{
+    if (argc != 2) {
+        fprintf(stderr, "usage: %s SAMPLE\n", argv[0]);
+        return 2;
+    }
+    size_t size;
+    uint8_t *sample = read_file(argv[1], &size);
+    test_marked();
+    test_cut();
+    test_damaged();
+    test_long();
+    test_sample(sample, size);
+    free(sample);
+    printf("%u passed, %u failed\n", passed, failed);
+    return failed == 0 ? 0 : 1;
+}

@@ -1,0 +1,66 @@
+/*
+ * lower: from a frame declaration, written as a record, to the lines of its C++ parser.
+ *
+ * Link the static library that `rt staticlib lowering` writes, target/staticlib/liblowering.a. It needs no library but C's, no heap
+ * and no start-up code. The function keeps no state, so that several threads may call it at once.
+ */
+#ifndef RUPHWENQO_H
+#define RUPHWENQO_H
+
+#include <stddef.h>
+#include <stdint.h>
+
+#ifdef __cplusplus
+extern "C" {
+#endif
+
+/* The longest record that is read, and a buffer that holds the lines of every record. */
+#define RUPHWENQO_RECORD_MAX 16384
+#define RUPHWENQO_LINES_ROOM 65536
+
+/*
+ * Lowers the record_len bytes at record into the out_len bytes at out.
+ *
+ * The number is the answer times 2^32 plus the length.
+ *   answer 0       the lines, with a newline behind each, are the first `length` bytes of out; the bytes behind them are unchanged.
+ *                  There is no 0 byte at the end. A length of 0 is an accepted record that has no lines.
+ *   answer 1 to 15 the first refusal that the record meets; the length is 0 and no byte of out is changed:
+ *
+ *    1  the record is empty or longer than 16,384 bytes
+ *    2  a line breaks the record form
+ *    3  more than 32 declarations, or one with more than 64 fields
+ *    4  two declarations have one name
+ *    5  a type or parent is not an earlier declaration, a parent is no packet or struct, or a fixed enum's type is no enum
+ *    6  a width, count, padding or mod number is outside its range
+ *    7  a static size, a total size, or the sum of a declaration's static field sizes exceeds 2^31 - 1 bits
+ *    8  an array's elements have a static size that is not a positive whole number of bytes, or an optional scalar or enum has
+ *       a width that is no multiple of 8
+ *    9  the target is no packet or struct of the record
+ *   10  a field that is optional or no bit field, or the end, comes while a chunk is open and unchecked lines are pending
+ *   11  a typedef of a non-enum, a payload or a body, without a condition, comes while a chunk is open and nothing is pending
+ *   12  a chunk reaches an octet boundary with more than 64 bits
+ *   13  an optional field is neither scalar nor typedef
+ *   14  a later field is not static, where a trailing size is needed
+ *   15  the lines are longer than out_len bytes
+ *
+ * The two ranges must not overlap, and must stay as they are during the call. Neither pointer may be null, also where its length is 0.
+ */
+uint64_t lower(const uint8_t *record, size_t record_len, uint8_t *out, size_t out_len);
+
+/* 0, or the number of the refusal. */
+static inline uint32_t ruphwenqo_answer(uint64_t number)
+{
+    return (uint32_t)(number >> 32);
+}
+
+/* How many bytes the lines have. */
+static inline size_t ruphwenqo_length(uint64_t number)
+{
+    return (size_t)(number & 0xffffffffu);
+}
+
+#ifdef __cplusplus
+}
+#endif
+
+#endif
