@@ -37,16 +37,13 @@ module _ (m : Arrays) (id before behind : Text) {l l₁ : Text} {i r : ℕ} wher
   pub by-amount : (a d : Amount) → a ≡ d → Put l i (before ++ exprText (amountOf m id d) behind) r l₁ → Put l i (before ++ exprText (amountOf m id a) behind) r l₁
   by-amount a d e p = rw e p
 
-  module _ (c : Amount) (a b : Term) {l₂ : Text} {s : ℕ} where
-    pub product : c ≡ Amount.Product a b → Put l i (before ++ exprText (termOf m id a) (text " * ")) r l₁
-        → Put l₁ r (exprText (termOf m id b) behind) s l₂
-        → Put l i (before ++ exprText (amountOf m id c) behind) s l₂
-    product e p q = rw e (follow (piece before ▸ expr-leads (termOf m id a) ▸ piece (text " * ")) p q)
-
-    pub quotient : c ≡ Amount.Quotient a b → Put l i (before ++ exprText (termOf m id a) (text " / ")) r l₁
-        → Put l₁ r (exprText (termOf m id b) behind) s l₂
-        → Put l i (before ++ exprText (amountOf m id c) behind) s l₂
-    quotient e p q = rw e (follow (piece before ▸ expr-leads (termOf m id a) ▸ piece (text " / ")) p q)
+  -- an operation
+  pub operation : (a b : Term) (operator : Text) {l₂ : Text} {s : ℕ} → Put l i (before ++ exprText (termOf m id a) operator) r l₁
+      → Put l₁ r (exprText (termOf m id b) behind) s l₂
+      → Put l i (before ++ exprText (termOf m id a) (operator ++ exprText (termOf m id b) behind)) s l₂
+  operation a b operator p q = like (sym (expr-before .split operator (exprText (termOf m id b) behind))) (chain p q) where
+    expr-before : Leads (λ t. before ++ exprText (termOf m id a) t)
+    expr-before = piece before ▸ expr-leads (termOf m id a)
 
 -- the backing type's bits
 module _ (w : ℕ) where

@@ -21,6 +21,7 @@ abbrev pub amountOf : Arrays → Text → Amount → Expr
 amountOf m id (Amount.Of a) = termOf m id a
 amountOf m id (Amount.Product a b) = Expr.mul (termOf m id a) (termOf m id b)
 amountOf m id (Amount.Quotient a b) = Expr.div (termOf m id a) (termOf m id b)
+amountOf m id (Amount.Remainder a b) = Expr.rem (termOf m id a) (termOf m id b)
 
 -- `W_t, N>()` of so many bits, between two pieces
 unfoldable pub sizedRead : Text → ℕ → Text → Text

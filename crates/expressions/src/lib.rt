@@ -4,13 +4,12 @@ use definitions::Arrays;
 use definitions::EndiannessValue;
 use text::ScalarType;
 ghost use mathlib.Core.Path.{_≡_};
-ghost use mathlib.Core.List.{_++_, []};
-ghost use Prim.Native.Nat.{_/_};
-ghost use Rattle.definitions.specs.Bytes.{decimal, text as bytes};
-ghost use Rattle.definitions.specs.Lines.{exprText, srcText, stmtText, Stmt};
+ghost use mathlib.Core.List.{_++_};
+ghost use Rattle.definitions.specs.Lines.{exprText, srcText, Stmt};
 ghost use Rattle.definitions.specs.Blocks.{named, readOf, checkSize, getCxxScalarType};
 ghost use Rattle.text.specs.Put.{Put};
 ghost use Rattle.expressions.specs.Amounts.{termOf, amountOf, sizedRead};
+ghost use Rattle.expressions.specs.Statements.{stmtBytes};
 
 // A number, the size of the span, or a variable of the array or payload that is read.
 pub enum Term {
@@ -32,6 +31,7 @@ pub enum Amount {
     Of(Term),
     Product(Term, Term),
     Quotient(Term, Term),
+    Remainder(Term, Term),
 }
 
 // `{prefix}{id}` and an end.
@@ -83,6 +83,24 @@ fn put_term(
     }
 }
 
+// Two terms with an operator between them, between two pieces.
+fn put_operation(
+    out: &mut [u8],
+    at: usize,
+    before: &[u8],
+    arrays: Arrays,
+    id: &[u8],
+    left: Term,
+    operator: &[u8],
+    right: Term,
+    behind: &[u8],
+) -> usize
+    ensures { λ r. ⌜ Put (now (out .entry)) at (now (before .entry) ++ exprText (termOf arrays (now (id .entry)) left) (now (operator .entry) ++ exprText (termOf arrays (now (id .entry)) right) (now (behind .entry)))) r (now (out .exit)) ⌝ }
+{
+    let p = put_term(out, at, before, arrays, id, left, operator);
+    put_term(out, p, b"", arrays, id, right, behind)
+}
+
 // An amount between two pieces.
 pub fn put_amount(
     out: &mut [u8],
@@ -96,21 +114,46 @@ pub fn put_amount(
     ensures { λ r. ⌜ Put (now (out .entry)) at (now (before .entry) ++ exprText (amountOf arrays (now (id .entry)) amount) (now (behind .entry))) r (now (out .exit)) ⌝ }
 {
     match amount {
-        Amount::Of(a) => put_term(out, at, before, arrays, id, a, behind),
-        Amount::Product(a, b) => {
-            let p = put_term(out, at, before, arrays, id, a, b" * ");
-            put_term(out, p, b"", arrays, id, b, behind)
-        }
-        Amount::Quotient(a, b) => {
-            let p = put_term(out, at, before, arrays, id, a, b" / ");
-            put_term(out, p, b"", arrays, id, b, behind)
-        }
+        Amount::Of(term) => put_term(out, at, before, arrays, id, term, behind),
+        Amount::Product(left, right) => put_operation(
+            out,
+            at,
+            before,
+            arrays,
+            id,
+            left,
+            b" * ",
+            right,
+            behind,
+        ),
+        Amount::Quotient(left, right) => put_operation(
+            out,
+            at,
+            before,
+            arrays,
+            id,
+            left,
+            b" / ",
+            right,
+            behind,
+        ),
+        Amount::Remainder(left, right) => put_operation(
+            out,
+            at,
+            before,
+            arrays,
+            id,
+            left,
+            b" % ",
+            right,
+            behind,
+        ),
     }
 }
 
 // `check_size`
 pub fn check_size(out: &mut [u8], at: usize, arrays: Arrays, id: &[u8], amount: Amount) -> usize
-    ensures { λ r. ⌜ Put (now (out .entry)) at (stmtText (Stmt.one (checkSize (amountOf arrays (now (id .entry)) amount))) []) r (now (out .exit)) ⌝ }
+    ensures { λ r. ⌜ Put (now (out .entry)) at (stmtBytes (Stmt.one (checkSize (amountOf arrays (now (id .entry)) amount)))) r (now (out .exit)) ⌝ }
 {
     put_amount(
         out,

@@ -2,9 +2,6 @@ use Rattle.expressions.proofs.Terms.{bits-known, bits-most}
 use borrow.Author.Needs.{needs}
 use Rattle.expressions.proofs.backing_bits.Statement.{statement}
 use Rattle.expressions.proofs.backing_bits.Tie as tie
-use Rattle.expressions.proofs.backing_bits.Reads as reads
-use Rattle.expressions.proofs.backing_bits.Lts as lts
-use Rattle.text.proofs.get_cxx_scalar_type.Reads as get-cxx-scalar-type-reads
 
 get-cxx-scalar-type-requires : tie.Need-get-cxx-scalar-type-requires
 get-cxx-scalar-type-requires c κs = search needs

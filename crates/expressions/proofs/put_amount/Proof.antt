@@ -1,10 +1,7 @@
-use Rattle.expressions.proofs.Terms.{by-amount, product, quotient}
+use Rattle.expressions.proofs.Terms.{by-amount}
 use borrow.Author.Needs.{needs}
 use Rattle.expressions.proofs.put_amount.Statement.{statement}
 use Rattle.expressions.proofs.put_amount.Tie as tie
-use Rattle.expressions.proofs.put_amount.Reads as reads
-use Rattle.expressions.proofs.put_amount.Lts as lts
-use Rattle.expressions.proofs.put_term.Reads as put-term-reads
 
 enum-known-amount : tie.Need-enum-known-amount
 enum-known-amount c = search needs
@@ -15,32 +12,29 @@ put-term-requires c κs = search needs
 enum-known-amount-2 : tie.Need-enum-known-amount-2
 enum-known-amount-2 c = search needs
 
-slice-aggregate-put-term : tie.Need-slice-aggregate-put-term
-slice-aggregate-put-term c = search needs
+slice-aggregate-put-operation : tie.Need-slice-aggregate-put-operation
+slice-aggregate-put-operation c = search needs
 
-put-term-requires-2 : tie.Need-put-term-requires-2
-put-term-requires-2 c κs = search needs
-
-slice-aggregate-put-term-2 : tie.Need-slice-aggregate-put-term-2
-slice-aggregate-put-term-2 c = search needs
-
-put-term-requires-3 : tie.Need-put-term-requires-3
-put-term-requires-3 c κs = search needs
+put-operation-requires : tie.Need-put-operation-requires
+put-operation-requires c κs = search needs
 
 enum-known-amount-3 : tie.Need-enum-known-amount-3
 enum-known-amount-3 c = search needs
 
-slice-aggregate-put-term-3 : tie.Need-slice-aggregate-put-term-3
-slice-aggregate-put-term-3 c = search needs
+slice-aggregate-put-operation-2 : tie.Need-slice-aggregate-put-operation-2
+slice-aggregate-put-operation-2 c = search needs
 
-put-term-requires-4 : tie.Need-put-term-requires-4
-put-term-requires-4 c κs = search needs
+put-operation-requires-2 : tie.Need-put-operation-requires-2
+put-operation-requires-2 c κs = search needs
 
-slice-aggregate-put-term-4 : tie.Need-slice-aggregate-put-term-4
-slice-aggregate-put-term-4 c = search needs
+enum-known-amount-4 : tie.Need-enum-known-amount-4
+enum-known-amount-4 c = search needs
 
-put-term-requires-5 : tie.Need-put-term-requires-5
-put-term-requires-5 c κs = search needs
+slice-aggregate-put-operation-3 : tie.Need-slice-aggregate-put-operation-3
+slice-aggregate-put-operation-3 c = search needs
+
+put-operation-requires-3 : tie.Need-put-operation-requires-3
+put-operation-requires-3 c κs = search needs
 
 same-length : tie.Need-same-length
 same-length c = search needs
@@ -52,13 +46,19 @@ same-length-2 : tie.Need-same-length-2
 same-length-2 c = search needs
 
 returns-2 : tie.Need-returns-2
-returns-2 c = search (product, needs)
+returns-2 c = search (by-amount, needs)
 
 same-length-3 : tie.Need-same-length-3
 same-length-3 c = search needs
 
 returns-3 : tie.Need-returns-3
-returns-3 c = search (quotient, needs)
+returns-3 c = search (by-amount, needs)
+
+same-length-4 : tie.Need-same-length-4
+same-length-4 c = search needs
+
+returns-4 : tie.Need-returns-4
+returns-4 c = search (by-amount, needs)
 
 pub put-amount-spec : {M : Type 1} → statement M
 put-amount-spec =
@@ -67,18 +67,19 @@ put-amount-spec =
     enum-known-amount
     put-term-requires
     enum-known-amount-2
-    slice-aggregate-put-term
-    put-term-requires-2
-    slice-aggregate-put-term-2
-    put-term-requires-3
+    slice-aggregate-put-operation
+    put-operation-requires
     enum-known-amount-3
-    slice-aggregate-put-term-3
-    put-term-requires-4
-    slice-aggregate-put-term-4
-    put-term-requires-5
+    slice-aggregate-put-operation-2
+    put-operation-requires-2
+    enum-known-amount-4
+    slice-aggregate-put-operation-3
+    put-operation-requires-3
     same-length
     returns
     same-length-2
     returns-2
     same-length-3
-    returns-3)
+    returns-3
+    same-length-4
+    returns-4)

@@ -2,10 +2,6 @@ use Rattle.text.proofs.Puts.{chain}
 use borrow.Author.Needs.{needs}
 use Rattle.expressions.proofs.put_named.Statement.{statement}
 use Rattle.expressions.proofs.put_named.Tie as tie
-use Rattle.expressions.proofs.put_named.Reads as reads
-use Rattle.expressions.proofs.put_named.Lts as lts
-use Rattle.expressions.proofs.put_target.Reads as put-target-reads
-use Rattle.text.proofs.put.Reads as put-reads
 
 put-requires : tie.Need-put-requires
 put-requires c κs = search needs

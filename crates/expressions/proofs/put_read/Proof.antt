@@ -2,10 +2,6 @@ use Rattle.expressions.proofs.Terms.{read-little, read-big}
 use borrow.Author.Needs.{needs}
 use Rattle.expressions.proofs.put_read.Statement.{statement}
 use Rattle.expressions.proofs.put_read.Tie as tie
-use Rattle.expressions.proofs.put_read.Reads as reads
-use Rattle.expressions.proofs.put_read.Lts as lts
-use Rattle.expressions.proofs.put_sized_read.Reads as put-sized-read-reads
-use Rattle.text.proofs.put.Reads as put-reads
 
 put-requires : tie.Need-put-requires
 put-requires c κs = search needs

@@ -2,11 +2,6 @@ use Rattle.expressions.proofs.Terms.{sized-read}
 use borrow.Author.Needs.{needs}
 use Rattle.expressions.proofs.put_sized_read.Statement.{statement}
 use Rattle.expressions.proofs.put_sized_read.Tie as tie
-use Rattle.expressions.proofs.put_sized_read.Reads as reads
-use Rattle.expressions.proofs.put_sized_read.Lts as lts
-use Rattle.expressions.proofs.backing_bits.Reads as backing-bits-reads
-use Rattle.text.proofs.put.Reads as put-reads
-use Rattle.text.proofs.put_number.Reads as put-number-reads
 
 backing-bits-requires : tie.Need-backing-bits-requires
 backing-bits-requires c κs = search needs

@@ -2,9 +2,6 @@ use Rattle.expressions.proofs.Terms.{by-mode}
 use borrow.Author.Needs.{needs}
 use Rattle.expressions.proofs.put_target.Statement.{statement}
 use Rattle.expressions.proofs.put_target.Tie as tie
-use Rattle.expressions.proofs.put_target.Reads as reads
-use Rattle.expressions.proofs.put_target.Lts as lts
-use Rattle.text.proofs.put_name.Reads as put-name-reads
 
 enum-told : tie.Need-enum-told
 enum-told c = search needs

@@ -2,11 +2,6 @@ use Rattle.expressions.proofs.Terms.{by-term}
 use borrow.Author.Needs.{needs}
 use Rattle.expressions.proofs.put_term.Statement.{statement}
 use Rattle.expressions.proofs.put_term.Tie as tie
-use Rattle.expressions.proofs.put_term.Reads as reads
-use Rattle.expressions.proofs.put_term.Lts as lts
-use Rattle.expressions.proofs.put_named.Reads as put-named-reads
-use Rattle.text.proofs.put_name.Reads as put-name-reads
-use Rattle.text.proofs.put_number.Reads as put-number-reads
 
 enum-known-term : tie.Need-enum-known-term
 enum-known-term c = search needs

@@ -1,0 +1,2 @@
+pub mod BlockOf
+pub mod Target
