@@ -1,0 +1,159 @@
+-- The answer for a field with and without a condition.
+-- Assumes nothing.
+use Prim.Native.Nat.{ℕ, _+_, _*_, _<_, _^_}
+use mathlib.Core.Bool.{Bool, true, false}
+use mathlib.Core.List.{List}
+use mathlib.Core.Path.{_≡_, sym, ap, subst, _∙_}
+use native.Mathlib.Omega.{arith}
+use lib.Dec.{ltb, eqb}
+use lib.ListN.{getD}
+use Rattle.definitions.specs.Bytes.{Text, text, pick}
+use Rattle.definitions.specs.Sizes.{Row, Annotated, EnumOf, enumIs, noEnum, enumOf, hasPayloadSize, descSize, annotateField}
+use Rattle.definitions.specs.Refusals.{largeSize}
+use Rattle.definitions.specs.FieldParser.{Setting, Emit, getTrailingSize, sizeBacking, parseOther, parseOptionalField, parseUnchecked}
+use Rattle.definitions.specs.Tables.{fieldHere, rowsFrom}
+use Rattle.definitions.specs.declared.Arrays.{Arrays}
+use Rattle.definitions.specs.declared.Cond.{Cond}
+use Rattle.definitions.specs.declared.EndiannessValue.{EndiannessValue}
+use Rattle.definitions.specs.declared.Field.{Field}
+use Rattle.definitions.specs.declared.FieldDesc.{FieldDesc}
+use Rattle.definitions.specs.declared.MaybeNumber.{MaybeNumber}
+use Rattle.definitions.specs.declared.Modifier.{Modifier}
+use Rattle.definitions.specs.declared.Part.{Part}
+use Rattle.definitions.specs.declared.Refusal.{Refusal}
+use Rattle.definitions.specs.declared.Size.{Size}
+use Rattle.rows.specs.Enums.{enumType}
+use Rattle.emits.specs.BlockOf.{blockOf, emitOf, EmitFits}
+use Rattle.emits.specs.Target.{rowsOf, fieldsOf, settingAt, annotatedAt, restAt, Fine}
+use Rattle.emits.specs.declared.BlockAt.{BlockAt}
+use Rattle.emits.specs.declared.EmitAt.{EmitAt}
+use Rattle.trailing.proofs.Rests.{size-fine}
+use Rattle.array_fields.proofs.Fits.{array-fits}
+use Rattle.fields.specs.Parsed.{Parsed}
+use Rattle.fields.specs.Values.{onBoundary, typedefUpTo, typedefBySize, typedefAt, optionalType, optionalAt, unsizedAt, payloadAt, otherAt}
+use Rattle.fields.proofs.Agree.{optionals-agree, others-agree}
+
+-- ---- what is no array fits
+
+boundary-fits : (b : Bool) (e : EmitAt) → EmitFits e → EmitFits (pick b e (EmitAt.Refuses Refusal.OctetBoundary))
+boundary-fits true e h = h
+boundary-fits false e h = tt
+
+picked-fits : (b : Bool) (x y : BlockAt) → EmitFits (EmitAt.Appends x) → EmitFits (EmitAt.Appends y) → EmitFits (EmitAt.Appends (pick b x y))
+picked-fits true x y hx hy = hx
+picked-fits false x y hx hy = hy
+
+typedef-fits : (id type : Part) (trailing : MaybeNumber) (z : Size) → EmitFits (typedefBySize id type trailing z)
+typedef-fits id type trailing (Size.Static bits) = omega arith
+typedef-fits id type trailing Size.Dynamic = omega arith
+typedef-fits id type MaybeNumber.None Size.Unknown = tt
+typedef-fits id type (MaybeNumber.Some bits) Size.Unknown = picked-fits (ltb 0 bits) _ _ (omega arith) (omega arith)
+
+payload-fits : (modifier : Modifier) (b : Bool) (trailing : MaybeNumber) → EmitFits (pick b (EmitAt.Appends (BlockAt.SizedPayload modifier)) (unsizedAt trailing))
+payload-fits modifier true trailing = omega arith
+payload-fits modifier false MaybeNumber.None = tt
+payload-fits modifier false (MaybeNumber.Some bits) = picked-fits (ltb 0 bits) _ _ (omega arith) (omega arith)
+
+optional-fits : (s : Text) (rows : List Row) (cond : Part) (value : ℕ) (d : FieldDesc) → EmitFits (optionalAt s rows cond value d)
+unfolding optionalAt
+optional-fits s rows cond value (FieldDesc.Checksum of) = tt
+optional-fits s rows cond value (FieldDesc.Padding size) = tt
+optional-fits s rows cond value (FieldDesc.Size of width) = tt
+optional-fits s rows cond value (FieldDesc.Count of width) = tt
+optional-fits s rows cond value (FieldDesc.ElementSize of width) = tt
+optional-fits s rows cond value FieldDesc.Body = tt
+optional-fits s rows cond value (FieldDesc.Payload modifier) = tt
+optional-fits s rows cond value (FieldDesc.FixedScalar width fixed) = tt
+optional-fits s rows cond value (FieldDesc.FixedEnum type tag) = tt
+optional-fits s rows cond value (FieldDesc.Reserved width) = tt
+optional-fits s rows cond value (FieldDesc.Array id width type modifier size) = tt
+optional-fits s rows cond value (FieldDesc.Scalar id width) = omega arith
+optional-fits s rows cond value (FieldDesc.Flag id) = tt
+optional-fits s rows cond value (FieldDesc.Typedef id type) = by (enumOf s rows type)
+  where
+    by : (e : EnumOf) → EmitFits (optionalType cond value id type (enumType e))
+    by (enumIs width true isComplete) = omega arith
+    by (enumIs width false isComplete) = omega arith
+    by noEnum = omega arith
+
+-- ---- an array that is not over the limit fits too
+
+module _ (s : Text) (rows : List Row) (fs : List Field) (order : EndiannessValue) (shift : ℕ) (size : Size) (padding trailing : MaybeNumber) where
+  other-fits : (d : FieldDesc) → largeSize (descSize s rows fs d) ≡ false → EmitFits (otherAt s rows fs order shift size padding trailing d)
+  unfolding otherAt descSize
+  other-fits (FieldDesc.Checksum of) h = tt
+  other-fits (FieldDesc.Padding bytes) h = tt
+  other-fits (FieldDesc.Size of width) h = tt
+  other-fits (FieldDesc.Count of width) h = tt
+  other-fits (FieldDesc.ElementSize of width) h = tt
+  other-fits FieldDesc.Body h = boundary-fits (eqb shift 0) _ (payload-fits Modifier.None (hasPayloadSize s fs) trailing)
+  other-fits (FieldDesc.Payload modifier) h = boundary-fits (eqb shift 0) _ (payload-fits modifier (hasPayloadSize s fs) trailing)
+  other-fits (FieldDesc.FixedScalar width value) h = tt
+  other-fits (FieldDesc.FixedEnum type tag) h = tt
+  other-fits (FieldDesc.Reserved width) h = tt
+  other-fits (FieldDesc.Array id width type modifier count) h = array-fits s rows fs id order padding width type modifier count h
+  other-fits (FieldDesc.Scalar id width) h = tt
+  other-fits (FieldDesc.Flag id) h = tt
+  other-fits (FieldDesc.Typedef id type) h = boundary-fits (eqb shift 0) _ (typedef-fits id type trailing size)
+
+-- ---- field k
+
+module _ (s : Text) (places own parents payloads fields : List ℕ) (i n k shift : ℕ) (order : EndiannessValue) {f : Field}
+    (ef : f ≡ fieldHere s (getD fields (i * 64 + k) 0)) where
+  abbrev rows : List Row
+  rows = rowsOf s places own parents payloads fields i n
+
+  abbrev fs : List Field
+  fs = fieldsOf s places own parents payloads fields i n
+
+  abbrev here : Annotated
+  here = annotatedAt s places own parents payloads fields i n k
+
+  abbrev later : List Annotated
+  later = restAt s places own parents payloads fields i n (k + 1)
+
+  abbrev setting : Arrays → Setting
+  setting m = settingAt s places own parents payloads fields i n order m
+
+  abbrev emit : Arrays → EmitAt → Emit
+  emit m e = emitOf s (text "payload") order m (λ id. sizeBacking s id fs) e
+
+  abbrev unchecked : Arrays → Cond → Emit
+  unchecked m cond = elim cond [
+    | Cond.None ↦ parseOther (setting m) shift here later (here .field .desc)
+    | Cond.Some id value ↦ parseOptionalField (setting m) id value (here .field .desc)
+  ]
+
+  chosen : (m : Arrays) {cond : Cond} → f .cond ≡ cond → unchecked m cond ≡ parseUnchecked (setting m) shift here later
+  unfolding parseUnchecked
+  chosen m e = ap (unchecked m) (sym e ∙ ap (λ (f : Field). f .cond) ef)
+
+  module _ {r : EmitAt} where
+    pub parsed-optional : {id : Part} {value : ℕ} → f .cond ≡ Cond.Some id value
+        → ((own par pay : List ℕ) → r ≡ optionalAt s (rowsFrom s places own par pay 0 i) id value (f .desc))
+        → Parsed s places own parents payloads fields i n k shift order r
+    parsed-optional {id} {value} e h =
+        record {
+          answer = λ m.
+              ap (emit m) (h own parents payloads ∙ ap (λ (f : Field). optionalAt s rows id value (f .desc)) ef)
+              ∙ optionals-agree (setting m) id value (here .field .desc) ∙ chosen m e;
+          fits = subst (λ (r : EmitAt). EmitFits r) (sym (h own parents payloads)) (optional-fits s rows id value (f .desc));
+        }
+
+    pub parsed-other : Fine s places own parents payloads fields i n → k < n → f .cond ≡ Cond.None
+        → r ≡ otherAt s rows fs order shift (here .fieldSize) (here .paddedSize) (getTrailingSize later) (f .desc)
+        → Parsed s places own parents payloads fields i n k shift order r
+    parsed-other fine w e h =
+        record {
+          answer = λ m.
+              ap (emit m)
+              (h ∙ ap (λ (f : Field). otherAt s rows fs order shift (here .fieldSize) (here .paddedSize) (getTrailingSize later) (f .desc)) ef)
+              ∙ others-agree (setting m) shift here later (here .field .desc) ∙ chosen m e;
+          fits = subst (λ (r : EmitAt). EmitFits r) (sym h)
+              (other-fits s rows fs order shift (here .fieldSize) (here .paddedSize) (getTrailingSize later) (f .desc) plain);
+        }
+      where
+        plain : largeSize (descSize s rows fs (f .desc)) ≡ false
+        plain =
+            sym (ap (λ (c : Cond). largeSize (elim c [ Cond.None ↦ descSize s rows fs (f .desc) | Cond.Some id value ↦ Size.Dynamic ])) e)
+            ∙ ap (λ (f : Field). largeSize (annotateField s rows fs f)) ef ∙ size-fine s places own parents payloads fields i n fine k w

@@ -1,0 +1,85 @@
+-- The target's fields from one on, and what refusal 7 says of them: none of them is over the limit, nor is the sum of their static sizes.
+-- Assumes nothing.
+use lib.ListN.{getD}
+use Prim.Native.Nat.{ℕ, zero, suc, _+_, _*_, _-_, _≤_, _<_}
+use mathlib.Core.Bool.{Bool, false, _||_}
+use mathlib.Core.List.{List, [], _∷_}
+use mathlib.Core.Path.{_≡_, sym, ap, subst, _∙_}
+use native.Mathlib.Numerals.{add-one}
+use native.Mathlib.Omega.{arith}
+use borrow.Author.Tests.{ltb-false}
+use Rattle.definitions.specs.Bytes.{Text, any}
+use Rattle.definitions.specs.Sizes.{Annotated, annotateField, annotateFields}
+use Rattle.definitions.specs.Refusals.{largeSize, tooLarge, badMaybe, largeField, staticSum}
+use Rattle.definitions.specs.Tables.{fieldHere}
+use Rattle.definitions.specs.declared.Field.{Field}
+use Rattle.definitions.specs.declared.Size.{Size}
+use Rattle.bits.proofs.Booleans.{or-left, or-right}
+use Rattle.references.proofs.Turns.{fields-end, fields-more}
+use Rattle.emits.specs.Target.{rowsOf, fieldsOf, restAt, annotatedAt, Fine}
+
+module _ (s : Text) (places own parents payloads fields : List ℕ) (i n : ℕ) where
+  abbrev rest : ℕ → List Annotated
+  rest j = restAt s places own parents payloads fields i n j
+
+  abbrev here : ℕ → Annotated
+  here j = annotatedAt s places own parents payloads fields i n j
+
+  pub rest-end : (j : ℕ) → n ≤ j → rest j ≡ []
+  unfolding annotateFields
+  rest-end j h =
+      ap (annotateFields s (rowsOf s places own parents payloads fields i n) (fieldsOf s places own parents payloads fields i n))
+      (fields-end s fields (i * 64) n j h)
+
+  pub rest-more : (j : ℕ) → j < n → rest j ≡ here j ∷ rest (j + 1)
+  unfolding annotateFields
+  rest-more j h =
+      ap (annotateFields s (rowsOf s places own parents payloads fields i n) (fieldsOf s places own parents payloads fields i n))
+      (fields-more s fields (i * 64) n j h)
+
+  module _ (fine : Fine s places own parents payloads fields i n) where
+    abbrev Kept : ℕ → Type 0
+    Kept j = (any largeField (rest j) ≡ false) × (staticSum (rest j) ≤ 2147483647)
+
+    kept-next : (j : ℕ) → j < n → Kept j → Kept (j + 1)
+    unfolding staticSum
+    kept-next j h kept = (
+      or-right (largeField (here j)) (any largeField (rest (j + 1))) (ap (any largeField) (sym (rest-more j h)) ∙ kept .0),
+      omega (arith, ap staticSum (rest-more j h)),
+    )
+
+    kept : (j : ℕ) → j ≤ n → Kept j
+    kept zero h = (fine .sizes, ltb-false 2147483647 (staticSum (rest 0)) (fine .sum))
+    kept (suc j) h = subst (λ (j : ℕ). Kept j) (add-one j) (kept-next j (omega arith) (kept j (omega arith)))
+
+    -- all together from one on
+    pub sum-fine : (j : ℕ) → j ≤ n → staticSum (rest j) ≤ 2147483647
+    sum-fine j h = kept j h .1
+
+    module _ (j : ℕ) (h : j < n) where
+      large-here : largeField (here j) ≡ false
+      large-here =
+          or-left (largeField (here j)) (any largeField (rest (j + 1))) (ap (any largeField) (sym (rest-more j h)) ∙ kept j (omega arith) .0)
+
+      -- one of them
+      pub size-fine : largeSize (here j .fieldSize) ≡ false
+      size-fine = or-left (largeSize (here j .fieldSize)) (badMaybe tooLarge (here j .paddedSize)) large-here
+
+      pub padding-fine : badMaybe tooLarge (here j .paddedSize) ≡ false
+      padding-fine = or-right (largeSize (here j .fieldSize)) (badMaybe tooLarge (here j .paddedSize)) large-here
+
+  -- a field as it is read at its place
+  module _ (k : ℕ) {f : Field} (ef : f ≡ fieldHere s (getD fields (i * 64 + k) 0)) where
+    pub read-fine : Fine s places own parents payloads fields i n → k < n
+        → largeSize (annotateField s (rowsOf s places own parents payloads fields i n) (fieldsOf s places own parents payloads fields i n) f) ≡ false
+    read-fine fine h =
+        ap
+        (λ (f : Field). largeSize
+        (annotateField s (rowsOf s places own parents payloads fields i n) (fieldsOf s places own parents payloads fields i n) f))
+        ef
+        ∙ size-fine fine k h
+
+    pub read-size : {z : Size} → z ≡ annotateField s (rowsOf s places own parents payloads fields i n) (fieldsOf s places own parents payloads fields i n) f → z ≡ here k .fieldSize
+    read-size ez =
+        ez
+        ∙ ap (λ (f : Field). annotateField s (rowsOf s places own parents payloads fields i n) (fieldsOf s places own parents payloads fields i n) f) ef
