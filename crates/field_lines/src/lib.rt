@@ -1,0 +1,184 @@
+// The bytes of the block that a field which is no bit field appends: `BlockAt` of emits, with its names as parts of the record. Document 01,
+// 'Lowering'; the arms are the calls that `parse_payload_field_lite`, `parse_typedef_field`, `parse_optional_field` and the array parsers of cxx.rs
+// come to.
+use definitions::ArraySize;
+use definitions::Arrays;
+use definitions::ElementSize;
+use definitions::EndiannessValue;
+use definitions::MaybeNumber;
+use definitions::MaybePart;
+use definitions::Modifier;
+use definitions::Part;
+use elements::Element;
+use emits::BlockAt;
+ghost use mathlib.Core.Path.{_≡_};
+ghost use Prim.Native.Nat.{ℕ};
+ghost use Rattle.definitions.specs.declared.Part.{Part};
+ghost use Rattle.text.specs.Put.{Put};
+ghost use Rattle.stream.specs.Stream.{blockText};
+ghost use Rattle.arrays.specs.Shapes.{ProductFits};
+ghost use Rattle.emits.specs.BlockOf.{typeText, arrayBlock, blockOf, BlockFits};
+
+// The name of the elements' type; empty where they have a width.
+fn type_name(rec: &[u8], type_id: MaybePart) -> &[u8]
+    ensures { λ r. ⌜ now r ≡ typeText (now (rec .entry)) «type_id» ⌝ }
+{
+    match type_id {
+        MaybePart::None => &rec[..0],
+        MaybePart::Some(name) => names::part(rec, name),
+    }
+}
+
+// An array, and the padding behind it, if there is one. The bits of its size variable are not written.
+fn put_array(
+    rec: &[u8],
+    out: &mut [u8],
+    at: usize,
+    arrays: Arrays,
+    padding: MaybeNumber,
+    id: Part,
+    type_id: MaybePart,
+    element: Element,
+    modifier: Modifier,
+    element_size: ElementSize,
+    array_size: ArraySize,
+) -> usize
+    requires { ⌜ ProductFits «element_size» «array_size» ⌝ }
+    ensures { λ r. ⌜ ((w : ℕ) → Put (now (out .entry)) at (blockText (arrayBlock (now (rec .entry)) arrays w padding id «type_id» element modifier «element_size» «array_size»)) r (now (out .exit))) ⌝ }
+{
+    let name = names::part(rec, id);
+    let ty = type_name(rec, type_id);
+    match padding {
+        MaybeNumber::None => arrays::put_array(
+            out,
+            at,
+            arrays,
+            name,
+            ty,
+            element,
+            modifier,
+            element_size,
+            array_size,
+        ),
+        MaybeNumber::Some(bytes) => padding_lines::put_padded_array(
+            out,
+            at,
+            bytes,
+            arrays,
+            name,
+            ty,
+            element,
+            modifier,
+            element_size,
+            array_size,
+        ),
+    }
+}
+
+// The bytes of a block.
+pub fn put_block<'a>(
+    rec: &'a [u8],
+    word: &'a [u8],
+    out: &mut [u8],
+    at: usize,
+    endianness: EndiannessValue,
+    arrays: Arrays,
+    block: BlockAt,
+) -> usize
+    requires { ⌜ BlockFits block ⌝ }
+    ensures { λ r. ⌜ ((bits : Part → ℕ) → Put (now (out .entry)) at (blockText (blockOf (now (rec .entry)) (now (word .entry)) endianness arrays bits block)) r (now (out .exit))) ⌝ }
+{
+    match block {
+        BlockAt::SizedPayload(modifier) => payload_lines::put_sized_payload(
+            out,
+            at,
+            arrays,
+            word,
+            modifier,
+        ),
+        BlockAt::PayloadUpTo(bytes) => payload_lines::put_payload_up_to(
+            out,
+            at,
+            arrays,
+            word,
+            bytes,
+        ),
+        BlockAt::PayloadToEnd => payload_lines::put_payload_to_end(out, at, arrays, word),
+        BlockAt::Array {
+            padding,
+            id,
+            type_id,
+            element,
+            modifier,
+            element_size,
+            array_size,
+        } => put_array(
+            rec,
+            out,
+            at,
+            arrays,
+            padding,
+            id,
+            type_id,
+            element,
+            modifier,
+            element_size,
+            array_size,
+        ),
+        BlockAt::OptionalScalar {
+            cond,
+            value,
+            width,
+            id,
+        } => {
+            let c = names::part(rec, cond);
+            let x = names::part(rec, id);
+            optional_lines::put_optional_scalar(out, at, c, value, endianness, width, arrays, x)
+        }
+        BlockAt::OptionalOpen {
+            cond,
+            value,
+            width,
+            id,
+            type_id,
+        } => {
+            let c = names::part(rec, cond);
+            let x = names::part(rec, id);
+            let ty = names::part(rec, type_id);
+            optional_lines::put_optional_open(out, at, c, value, endianness, width, arrays, x, ty)
+        }
+        BlockAt::OptionalClosed {
+            cond,
+            value,
+            width,
+            id,
+            type_id,
+        } => {
+            let c = names::part(rec, cond);
+            let x = names::part(rec, id);
+            let ty = names::part(rec, type_id);
+            optional_lines::put_optional_closed(out, at, c, value, endianness, width, arrays, x, ty)
+        }
+        BlockAt::OptionalNested {
+            cond,
+            value,
+            id,
+            type_id,
+        } => {
+            let c = names::part(rec, cond);
+            let x = names::part(rec, id);
+            let ty = names::part(rec, type_id);
+            optional_lines::put_optional_nested(out, at, c, value, arrays, x, ty)
+        }
+        BlockAt::Nested { id, type_id } => {
+            let x = names::part(rec, id);
+            let ty = names::part(rec, type_id);
+            nested_lines::put_nested(out, at, arrays, x, ty)
+        }
+        BlockAt::NestedUpTo { id, bytes, type_id } => {
+            let x = names::part(rec, id);
+            let ty = names::part(rec, type_id);
+            nested_lines::put_nested_up_to(out, at, arrays, x, bytes, ty)
+        }
+    }
+}

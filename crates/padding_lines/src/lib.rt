@@ -1,0 +1,67 @@
+// The block of an array with its padding: what `parse_array_field` of cxx.rs puts around an array of padded size. Document 01, 'Lowering'; the texts
+// are those of definitions' Blocks.
+use definitions::ArraySize;
+use definitions::Arrays;
+use definitions::ElementSize;
+use definitions::Modifier;
+use elements::Element;
+ghost use Rattle.definitions.specs.Blocks.{Block};
+ghost use Rattle.text.specs.Put.{Put};
+ghost use Rattle.stream.specs.Stream.{blockText};
+ghost use Rattle.arrays.specs.Shapes.{ProductFits, arrayOf};
+ghost use Rattle.padding_lines.specs.Texts.{missingText, paddingText};
+
+// `P - ({id}_start_size - span.size())`, between two pieces.
+fn put_missing(out: &mut [u8], at: usize, before: &[u8], id: &[u8], n: u64, behind: &[u8]) -> usize
+    ensures { λ r. ⌜ Put (now (out .entry)) at (missingText (now (before .entry)) (now (id .entry)) n (now (behind .entry))) r (now (out .exit)) ⌝ }
+{
+    let p = text::put_number(out, at, before, n, b" - (");
+    text::put_name(out, p, id, b"_start_size - span.size())", behind)
+}
+
+// The padding after an array.
+fn put_padding(out: &mut [u8], at: usize, id: &[u8], n: u64) -> usize
+    ensures { λ r. ⌜ Put (now (out .entry)) at (paddingText (now (id .entry)) n) r (now (out .exit)) ⌝ }
+{
+    let p = text::put_name(out, at, b"if (", id, b"_start_size - span.size() < ");
+    let q = text::put_number(out, p, b"", n, b") {\n");
+    let s = put_missing(
+        out,
+        q,
+        b"    if (span.size() < ",
+        id,
+        n,
+        b") return false;\n",
+    );
+    put_missing(out, s, b"    span.skip(", id, n, b");\n}\n")
+}
+
+pub fn put_padded_array(
+    out: &mut [u8],
+    at: usize,
+    padding: u64,
+    arrays: Arrays,
+    id: &[u8],
+    type_id: &[u8],
+    element: Element,
+    modifier: Modifier,
+    element_size: ElementSize,
+    array_size: ArraySize,
+) -> usize
+    requires { ⌜ ProductFits «element_size» «array_size» ⌝ }
+    ensures { λ r. ⌜ Put (now (out .entry)) at (blockText (Block.paddedArray padding modifier 64 (arrayOf arrays (now (id .entry)) (now («type_id» .entry)) element «element_size» «array_size»))) r (now (out .exit)) ⌝ }
+{
+    let p = text::put_name(out, at, b"size_t ", id, b"_start_size = span.size();\n");
+    let q = arrays::put_array(
+        out,
+        p,
+        arrays,
+        id,
+        type_id,
+        element,
+        modifier,
+        element_size,
+        array_size,
+    );
+    put_padding(out, q, id, padding)
+}
