@@ -1,0 +1,117 @@
+-- The driver over the fields: `new`, a turn for each field, and `done`. What is left of the stream, behind what is written, is the definitions' lowering.
+-- Assumes nothing.
+use mathlib.Core.List.{List, [], _∷_, _++_, append-assoc, append-nil}
+use mathlib.Core.Path.{_≡_, refl, sym, ap, _∙_, subst}
+use Prim.Native.Nat.{ℕ, _+_, _≤_, _<_, _^_}
+use native.Mathlib.Omega.{arith}
+use lib.ListN.{length}
+use Rattle.definitions.specs.Bytes.{Text, text}
+use Rattle.definitions.specs.Sizes.{Annotated}
+use Rattle.definitions.specs.Blocks.{Bit, widths}
+use Rattle.definitions.specs.FieldParser.{Setting, lowerFields}
+use Rattle.definitions.specs.declared.Arrays.{Arrays}
+use Rattle.definitions.specs.declared.EndiannessValue.{EndiannessValue}
+use Rattle.definitions.specs.declared.Refusal.{Refusal}
+use Rattle.definitions.specs.declared.Verdict.{Verdict}
+use Rattle.text.specs.Put.{Put}
+use Rattle.text.proofs.Puts.{chain, still, like, kept}
+use Rattle.stream.specs.Stream.{Result, refuses, writes, ahead, rendered, fresh, stream}
+use Rattle.stream.specs.Stream as flow
+use Rattle.stream.proofs.Same.{streamed}
+use Rattle.chunks.specs.declared.State.{State}
+use Rattle.chunks.specs.declared.Checked.{Checked}
+use Rattle.chunks.specs.declared.Step.{Step}
+use Rattle.chunks.specs.Steps.{Long, newState, codeChecked}
+use Rattle.chunks.proofs.Advances.{onVerdict, new-view, new-long, code-flushes}
+use Rattle.emits.specs.Target.{settingAt, restAt, Fine}
+use Rattle.emits.proofs.Rests.{rest-end}
+use Rattle.runs.proofs.Rests.{sum-fine}
+use Rattle.parser.specs.declared.Lowered.{Lowered}
+use Rattle.parser.specs.Driver.{seen, Going, from, Parsed, doneBy, Lowers}
+use Rattle.parser.proofs.Others.{nothing-ahead}
+
+ahead-ahead : (s t : Text) (r : Result) → ahead s (ahead t r) ≡ ahead (s ++ t) r
+ahead-ahead s t (refuses why) = refl
+ahead-ahead s t (writes u) = ap writes (sym (append-assoc s t u))
+
+-- `done`, by what `check_code` says
+module _ (t : State) (at p : ℕ) {q : Checked} (e : q ≡ codeChecked t) where
+  done-by : (v : Verdict) → q .verdict ≡ v → doneBy v at p ≡ doneBy (codeChecked t .verdict) at p
+  done-by v h = ap (λ (x : Verdict). doneBy x at p) (sym h ∙ ap (λ (x : Checked). x .verdict) e)
+
+  pub done-passes : q .verdict ≡ Verdict.Pass → _≡_ {A = Lowered} (record { verdict = Verdict.Pass; at = p }) (doneBy (codeChecked t .verdict) at p)
+  done-passes h = done-by Verdict.Pass h
+
+  pub done-refuses : (why : Refusal) → q .verdict ≡ Verdict.Refuse why → _≡_ {A = Lowered} (record { verdict = Verdict.Refuse why; at = at }) (doneBy (codeChecked t .verdict) at p)
+  done-refuses why h = done-by (Verdict.Refuse why) h
+
+module _ (s places own parents payloads fields : List ℕ) (i n : ℕ) (order : EndiannessValue) (m : Arrays) (out₀ : Text) (at : ℕ) where
+  abbrev c : Setting
+  c = settingAt s places own parents payloads fields i n order m
+
+  abbrev rest : ℕ → List Annotated
+  rest = restAt s places own parents payloads fields i n
+
+  -- the stream from a state on
+  abbrev left : ℕ → State → Result
+  left k t = stream c (seen m s t) (rest k)
+
+  -- before field k: what is written, and then what is left
+  pub record Run (out : Text) (p k : ℕ) (t : State) : Type 0 where
+    pub lines : Text
+    pub wrote : Put out₀ at lines p out
+    pub same : length out ≡ length out₀
+    pub goes : stream c fresh (rest 0) ≡ ahead lines (left k t)
+    pub going : Going s places own parents payloads fields i n m k t
+
+  pub run-start : Fine s places own parents payloads fields i n → {t : State} → t ≡ newState → length out₀ < 2 ^ 63 → Run out₀ at 0 t
+  run-start fine e room = subst (Run out₀ at 0) (sym e) (record {
+    lines = [];
+    wrote = still out₀ at room;
+    same = refl;
+    goes = ap (λ (x : flow.State). stream c x (rest 0)) (sym (new-view m s (text "payload"))) ∙ nothing-ahead (left 0 newState);
+    going = record {
+      few = omega arith;
+      numbers = omega arith;
+      sum = ap (λ (x : flow.State). widths (x .chunk)) (sym (new-view m s (text "payload")));
+      fits = omega (arith, sum-fine s places own parents payloads fields i n fine 0 (omega arith));
+      long = new-long;
+    };
+  })
+
+  abbrev Ends : Lowered → Text → Type 0
+  Ends r out = Lowers (rendered (lowerFields c (rest 0))) out₀ at r out
+
+  ends : (r : Lowered) (out : Text) {x : Result} → stream c fresh (rest 0) ≡ x → Lowers x out₀ at r out → Ends r out
+  ends r out e d = subst (λ (x : Result). Lowers x out₀ at r out) (sym (streamed c (rest 0) ∙ e)) d
+
+  module _ (out : Text) (p k : ℕ) (t : State) (run : Run out p k t) where
+    -- `done`
+    finished : (v : Verdict) → left k t ≡ onVerdict v (writes []) → Ends (doneBy v at p) out
+    finished Verdict.Pass e =
+        ends (doneBy Verdict.Pass at p) out (run .goes ∙ ap (ahead (run .lines)) e) (record { verdict-is = refl; wrote = like (sym (append-nil (run .lines))) (run .wrote) })
+    finished (Verdict.Refuse why) e =
+        ends (doneBy (Verdict.Refuse why) at p) out (run .goes ∙ ap (ahead (run .lines)) e)
+        (record { verdict-is = refl; at-is = refl; lines = run .lines; behind = p; wrote = run .wrote })
+
+    pub run-done : n ≤ k → (r : Lowered) → r ≡ doneBy (codeChecked t .verdict) at p → Ends r out
+    unfolding stream
+    run-done h r e =
+        subst (λ (x : Lowered). Ends x out) (sym e)
+        (finished (codeChecked t .verdict)
+        (ap (stream c (seen m s t)) (rest-end s places own parents payloads fields i n k h) ∙ code-flushes m s (text "payload") t (writes [])))
+
+    module _ {q : Step} {next : Text} (d : Parsed s places own parents payloads fields i n order m k t out p q next) where
+      pub run-stop : {why : Refusal} → q .verdict ≡ Verdict.Refuse why → Ends (record { verdict = Verdict.Refuse why; at = at }) next
+      run-stop {why} e =
+          ends (record { verdict = Verdict.Refuse why; at = at }) next (run .goes ∙ ap (ahead (run .lines)) (d .stops why e))
+          (record { verdict-is = refl; at-is = refl; lines = run .lines ++ d .lines; behind = q .at; wrote = chain (run .wrote) (d .wrote) })
+
+      pub run-turn : q .verdict ≡ Verdict.Pass → Run next (q .at) (k + 1) (q .state)
+      run-turn e = record {
+        lines = run .lines ++ d .lines;
+        wrote = chain (run .wrote) (d .wrote);
+        same = kept (d .wrote) ∙ run .same;
+        goes = run .goes ∙ ap (ahead (run .lines)) (d .passes e) ∙ ahead-ahead (run .lines) (d .lines) (left (k + 1) (q .state));
+        going = d .going e;
+      }

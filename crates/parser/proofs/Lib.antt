@@ -1,0 +1,4 @@
+pub mod Later
+pub mod BitFields
+pub mod Others
+pub mod Drives

@@ -1,0 +1,141 @@
+-- `parse` of a field that is no bit field: what it emits, behind what `check_code` comes to.
+-- Assumes nothing.
+use mathlib.Core.Bool.{false}
+use mathlib.Core.List.{List, [], _∷_}
+use mathlib.Core.Path.{_≡_, refl, sym, ap, _∙_, subst}
+use Prim.Native.Nat.{ℕ, _+_, _≤_, _<_, _^_}
+use native.Mathlib.Omega.{arith}
+use lib.ListN.{length}
+use Rattle.definitions.specs.Bytes.{Text, text}
+use Rattle.definitions.specs.Sizes.{Annotated}
+use Rattle.definitions.specs.Refusals.{staticSum}
+use Rattle.definitions.specs.FieldParser.{Setting, Emit, sizeBacking, isBit}
+use Rattle.definitions.specs.declared.Arrays.{Arrays}
+use Rattle.definitions.specs.declared.EndiannessValue.{EndiannessValue}
+use Rattle.definitions.specs.declared.Field.{Field}
+use Rattle.definitions.specs.declared.Part.{Part}
+use Rattle.definitions.specs.declared.Refusal.{Refusal}
+use Rattle.definitions.specs.declared.Verdict.{Verdict}
+use Rattle.text.specs.Put.{Put}
+use Rattle.text.proofs.Puts.{still}
+use Rattle.stream.specs.Stream.{Result, refuses, writes, ahead, blockText, emitting, calm, stream}
+use Rattle.stream.specs.Stream as flow
+use Rattle.stream.proofs.Steps.{stream-no}
+use Rattle.chunks.specs.declared.State.{State}
+use Rattle.chunks.specs.declared.Checked.{Checked}
+use Rattle.chunks.specs.declared.Step.{Step}
+use Rattle.chunks.specs.Steps.{Long, codeChecked}
+use Rattle.chunks.proofs.Advances.{onVerdict, code-flushes, code-calms, code-long}
+use Rattle.chunks.proofs.Within.{Within, within-calm}
+use Rattle.emits.specs.BlockOf.{blockOf, BlockFits, emitOf, EmitFits}
+use Rattle.emits.specs.declared.BlockAt.{BlockAt}
+use Rattle.emits.specs.declared.EmitAt.{EmitAt}
+use Rattle.emits.specs.Target.{fieldsOf, settingAt, restAt, fieldIn, annotatedAt}
+use Rattle.emits.proofs.Rests.{rest-step}
+use Rattle.fields.specs.Parsed.{Parsed as Unchecked}
+use Rattle.parser.specs.declared.Lowered.{Lowered}
+use Rattle.parser.specs.Driver.{seen, Turn, emits, Emitted, from, Parsed}
+use Rattle.parser.proofs.BitFields.{within, sums, going-by}
+
+pub nothing-ahead : (r : Result) → r ≡ ahead [] r
+nothing-ahead (refuses why) = refl
+nothing-ahead (writes t) = refl
+
+module _ (s places own parents payloads fields : List ℕ) (i n : ℕ) where
+  abbrev rest : ℕ → List Annotated
+  rest = restAt s places own parents payloads fields i n
+
+  abbrev here : ℕ → Annotated
+  here = annotatedAt s places own parents payloads fields i n
+
+  module _ (order : EndiannessValue) (m : Arrays) (k : ℕ) where
+    abbrev c : Setting
+    c = settingAt s places own parents payloads fields i n order m
+
+    -- ---- what the field emits
+
+    module _ (shift : ℕ) {e : EmitAt} (u : Unchecked s places own parents payloads fields i n k shift order e) where
+      abbrev backing : Part → ℕ
+      backing id = sizeBacking s id (fieldsOf s places own parents payloads fields i n)
+
+      emits-as : {x : EmitAt} → e ≡ x → emits s places own parents payloads fields i n order m k shift ≡ emitOf s (text "payload") order m backing x
+      emits-as h = sym (u .answer m) ∙ ap (emitOf s (text "payload") order m backing) h
+
+      pub block-fits : {b : BlockAt} → e ≡ EmitAt.Appends b → BlockFits b
+      block-fits h = subst EmitFits h (u .fits)
+
+      pub emits-block : {b : BlockAt} → e ≡ EmitAt.Appends b → {out left : Text} {at p : ℕ}
+          → ((bits : Part → ℕ) → Put out at (blockText (blockOf s (text "payload") order m bits b)) p left)
+          → Emitted s places own parents payloads fields i n order m k shift out at (record { verdict = Verdict.Pass; at = p }) left
+      emits-block {b} h put = record {
+        lines = blockText (blockOf s (text "payload") order m backing b);
+        wrote = put backing;
+        passes = λ v next. ap (λ (x : Emit). emitting x next) (emits-as h);
+        stops = λ why v next. absurd (let z : _≡_ {A = ℕ} 0 1 = cc in omega arith);
+      }
+
+      pub emits-none : e ≡ EmitAt.Silent → (out : Text) (at : ℕ) → length out < 2 ^ 63
+          → Emitted s places own parents payloads fields i n order m k shift out at (record { verdict = Verdict.Pass; at = at }) out
+      emits-none h out at room = record {
+        lines = [];
+        wrote = still out at room;
+        passes = λ v next. ap (λ (x : Emit). emitting x next) (emits-as h) ∙ nothing-ahead next;
+        stops = λ why v next. absurd (let z : _≡_ {A = ℕ} 0 1 = cc in omega arith);
+      }
+
+      pub emits-refusal : {why : Refusal} → e ≡ EmitAt.Refuses why → (out : Text) (at : ℕ) → length out < 2 ^ 63
+          → Emitted s places own parents payloads fields i n order m k shift out at (record { verdict = Verdict.Refuse why; at = at }) out
+      emits-refusal {why} h out at room = record {
+        lines = [];
+        wrote = still out at room;
+        passes = λ v next. absurd (let z : _≡_ {A = ℕ} 0 1 = cc in omega arith);
+        stops = λ because v next. ap (λ (x : Emit). emitting x next) (emits-as h) ∙ ap refuses (let z : why ≡ because = cc in z);
+      }
+
+    -- ---- behind `check_code`
+
+    module _ {t : State} (turn : Turn s places own parents payloads fields i n m k t)
+        (eb : isBit c (fieldIn s places own parents payloads fields i n k) ≡ false) {q : Checked} (ec : q ≡ codeChecked t) where
+      abbrev next : Result
+      next = stream c (calm (seen m s t)) (rest (k + 1))
+
+      streams : {v : Verdict} → q .verdict ≡ v → from s places own parents payloads fields i n order m k k t
+          ≡ onVerdict v (emitting (emits s places own parents payloads fields i n order m k (t .shift)) next)
+      streams e =
+          ap (stream c (seen m s t)) (rest-step s places own parents payloads fields i n k (turn .inside))
+          ∙ stream-no c (here k) (rest (k + 1)) (seen m s t) eb
+          ∙ code-flushes m s (text "payload") t (emitting (emits s places own parents payloads fields i n order m k (t .shift)) next)
+          ∙ ap (λ (x : Verdict). onVerdict x (emitting (emits s places own parents payloads fields i n order m k (t .shift)) next))
+          (ap (λ (x : Checked). x .verdict) (sym ec) ∙ e)
+
+      calmed : q .verdict ≡ Verdict.Pass → seen m s (q .state) ≡ calm (seen m s t)
+      calmed e = ap (λ (x : Checked). seen m s (x .state)) ec ∙ code-calms m s (text "payload") t (ap (λ (x : Checked). x .verdict) (sym ec) ∙ e)
+
+      -- 10
+      pub other-open : {why : Refusal} → q .verdict ≡ Verdict.Refuse why → (out : Text) (at : ℕ) → length out < 2 ^ 63
+          → Parsed s places own parents payloads fields i n order m k t out at (record { verdict = Verdict.Refuse why; at = at; state = q .state }) out
+      other-open {why} e out at room = record {
+        lines = [];
+        wrote = still out at room;
+        passes = λ p. absurd (let z : _≡_ {A = ℕ} 0 1 = cc in omega arith);
+        stops = λ because p. streams e ∙ ap refuses (let z : why ≡ because = cc in z);
+        going = λ p. absurd (let z : _≡_ {A = ℕ} 0 1 = cc in omega arith);
+      }
+
+      pub other-goes : q .verdict ≡ Verdict.Pass → {out left : Text} {at : ℕ} {r : Lowered}
+          → Emitted s places own parents payloads fields i n order m k (t .shift) out at r left
+          → Parsed s places own parents payloads fields i n order m k t out at (record { verdict = r .verdict; at = r .at; state = q .state }) left
+      other-goes e {r = r} d = record {
+        lines = d .lines;
+        wrote = d .wrote;
+        passes =
+            λ p. streams e ∙ d .passes p next
+            ∙ ap (λ (x : flow.State). ahead (d .lines) (stream c x (rest (k + 1)))) (sym (calmed e));
+        stops = λ why p. streams e ∙ d .stops why p next;
+        going =
+            λ p. going-by s places own parents payloads fields i n order m k (q .state)
+            (subst (λ (x : flow.State). Within x (k + 1) (t .shift)) (sym (calmed e))
+            (within-calm (seen m s t) k (t .shift) (within s places own parents payloads fields i n order m k t (turn .going))))
+            (omega (arith, sums s places own parents payloads fields i n order m k (turn .inside), turn .going .fits))
+            (subst (λ (x : Checked). Long (x .state)) (sym ec) (code-long t (turn .going .long)));
+      }

@@ -1,0 +1,42 @@
+use Rattle.parser.proofs.Others.{other-open, other-goes}
+use borrow.Author.Needs.{needs}
+use Rattle.parser.proofs.parse_other_field.Statement.{statement}
+use Rattle.parser.proofs.parse_other_field.Tie as tie
+
+check-code-requires : tie.Need-check-code-requires
+check-code-requires c κs = search needs
+
+enum-known-verdict : tie.Need-enum-known-verdict
+enum-known-verdict c = search needs
+
+enum-told : tie.Need-enum-told
+enum-told c = search needs
+
+emit-requires : tie.Need-emit-requires
+emit-requires c κs = search needs
+
+returns : tie.Need-returns
+returns c =
+    other-open _ _ _ _ _ _ _ _ _ _ _
+    (c .before .before .before .before .before .before .before .before .before .before .before .before .pre .0)
+    (c .before .before .before .before .before .before .before .before .before .before .before .before .pre .1)
+    (c .before .before .before .before .check-code .ensures)
+    (search needs) _ _ (search needs)
+
+same-length : tie.Need-same-length
+same-length c = search needs
+
+returns-2 : tie.Need-returns-2
+returns-2 c = search (other-goes, needs)
+
+pub parse-other-field-spec : {M : Type 1} → statement M
+parse-other-field-spec =
+    tie.close
+    (tie.spec
+    check-code-requires
+    enum-known-verdict
+    enum-told
+    emit-requires
+    returns
+    same-length
+    returns-2)

@@ -1,0 +1,339 @@
+// The driver of `FieldParser` (cxx.rs): `new`, `parse` for each field of the target in order, and `done`. A run's check is written before its first
+// chunk, with the total found by looking ahead over the widths (crate runs); that the lines are those of cxx.rs is the law of crate stream.
+// The target has the index i: its fields are the n that the table has from 64 i on, types are looked up in the i rows before.
+use chunks::State;
+use chunks::Step;
+use definitions::Arrays;
+use definitions::EndiannessValue;
+use definitions::Field;
+use definitions::Verdict;
+use emits::EmitAt;
+ghost use mathlib.Core.Path.{_≡_};
+ghost use mathlib.Core.Bool.{true, false};
+ghost use Prim.Native.Nat.{_+_, _≤_, _<_};
+ghost use Rattle.definitions.specs.FieldParser.{isBit, lowerFields};
+ghost use Rattle.definitions.specs.declared.Arrays.{Arrays};
+ghost use Rattle.definitions.specs.declared.EndiannessValue.{EndiannessValue};
+ghost use Rattle.stream.specs.Stream.{runBits, rendered};
+ghost use Rattle.chunks.specs.Steps.{codeChecked};
+ghost use Rattle.emits.specs.Target.{settingAt, restAt, fieldIn, Fine};
+ghost use Rattle.parser.specs.Driver.{laterBits, Turn, Emitted, Parsed, doneBy, Lowers};
+
+// The answer, and the place behind the lines.
+pub struct Lowered {
+    pub verdict: Verdict,
+    pub at: usize,
+}
+
+// ---- `parse`, of a bit field
+
+// The bits behind field k that its check counts; the chunk comes to `sum` bits.
+fn later_bits(
+    rec: &[u8],
+    places: &[usize],
+    own: &[u64],
+    parents: &[u64],
+    payloads: &[u64],
+    fields: &[usize],
+    i: usize,
+    n: usize,
+    k: usize,
+    pending: bool,
+    sum: u64,
+) -> u64
+    requires { ⌜ (k < n) × Fine (now rec) (now places) (now own) (now parents) (now payloads) (now fields) i n ⌝ }
+    ensures { λ r. ⌜ ((order : EndiannessValue) (m : Arrays) → r ≡ laterBits pending sum (runBits (settingAt (now (rec .entry)) (now (places .entry)) (now (own .entry)) (now (parents .entry)) (now (payloads .entry)) (now (fields .entry)) i n order m) (restAt (now (rec .entry)) (now (places .entry)) (now (own .entry)) (now (parents .entry)) (now (payloads .entry)) (now (fields .entry)) i n (k + 1)))) ⌝ }
+{
+    if pending {
+        return 0;
+    }
+    if sum % 8 != 0 {
+        return 0;
+    }
+    runs::run_bits(rec, places, own, parents, payloads, fields, i, n, k + 1)
+}
+
+fn parse_bit_field<'a>(
+    rec: &'a [u8],
+    out: &mut [u8],
+    at: usize,
+    order: EndiannessValue,
+    m: Arrays,
+    places: &[usize],
+    own: &[u64],
+    parents: &[u64],
+    payloads: &[u64],
+    fields: &[usize],
+    i: usize,
+    n: usize,
+    k: usize,
+    t: State,
+    f: Field,
+) -> Step
+    requires { ⌜ Turn (now rec) (now places) (now own) (now parents) (now payloads) (now fields) i n m k t ⌝ }
+    requires { ⌜ f ≡ fieldIn (now rec) (now places) (now own) (now parents) (now payloads) (now fields) i n k ⌝ }
+    requires { ⌜ isBit (settingAt (now rec) (now places) (now own) (now parents) (now payloads) (now fields) i n order m) f ≡ true ⌝ }
+    ensures { λ r. ⌜ Parsed (now (rec .entry)) (now (places .entry)) (now (own .entry)) (now (parents .entry)) (now (payloads .entry)) (now (fields .entry)) i n order m k t (now (out .entry)) at r (now (out .exit)) ⌝ }
+{
+    let desc = f.desc;
+    let shift = t.shift;
+    let pending = t.pending;
+    let kind = field_kinds::kind_of(rec, places, fields, i, n, desc);
+    let size = annotate::field_size(rec, places, own, parents, payloads, fields, i, n, f);
+    let width = runs::static_width(size);
+    let later = later_bits(
+        rec,
+        places,
+        own,
+        parents,
+        payloads,
+        fields,
+        i,
+        n,
+        k,
+        pending,
+        shift + width,
+    );
+    chunks::parse_bit_field(rec, b"payload", out, at, m, order, t, kind, width, later)
+}
+
+// ---- `parse`, of any other field
+
+// What field k emits, where nothing is pending.
+fn emit<'a>(
+    rec: &'a [u8],
+    out: &mut [u8],
+    at: usize,
+    order: EndiannessValue,
+    m: Arrays,
+    places: &[usize],
+    own: &[u64],
+    parents: &[u64],
+    payloads: &[u64],
+    fields: &[usize],
+    i: usize,
+    n: usize,
+    k: usize,
+    shift: u64,
+) -> Lowered
+    requires { ⌜ (k < n) × Fine (now rec) (now places) (now own) (now parents) (now payloads) (now fields) i n ⌝ }
+    ensures { λ r. ⌜ Emitted (now (rec .entry)) (now (places .entry)) (now (own .entry)) (now (parents .entry)) (now (payloads .entry)) (now (fields .entry)) i n order m k shift (now (out .entry)) at r (now (out .exit)) ⌝ }
+{
+    match fields::parse_unchecked(
+        rec,
+        places,
+        own,
+        parents,
+        payloads,
+        fields,
+        i,
+        n,
+        k,
+        shift,
+        order,
+    ) {
+        EmitAt::Appends(block) => Lowered {
+            verdict: Verdict::Pass,
+            at: field_lines::put_block(rec, b"payload", out, at, order, m, block),
+        },
+        EmitAt::Silent => Lowered {
+            verdict: Verdict::Pass,
+            at,
+        },
+        EmitAt::Refuses(why) => Lowered {
+            verdict: Verdict::Refuse(why),
+            at,
+        },
+    }
+}
+
+// It first flushes what is pending.
+fn parse_other_field<'a>(
+    rec: &'a [u8],
+    out: &mut [u8],
+    at: usize,
+    order: EndiannessValue,
+    m: Arrays,
+    places: &[usize],
+    own: &[u64],
+    parents: &[u64],
+    payloads: &[u64],
+    fields: &[usize],
+    i: usize,
+    n: usize,
+    k: usize,
+    t: State,
+) -> Step
+    requires { ⌜ Turn (now rec) (now places) (now own) (now parents) (now payloads) (now fields) i n m k t ⌝ }
+    requires { ⌜ isBit (settingAt (now rec) (now places) (now own) (now parents) (now payloads) (now fields) i n order m) (fieldIn (now rec) (now places) (now own) (now parents) (now payloads) (now fields) i n k) ≡ false ⌝ }
+    ensures { λ r. ⌜ Parsed (now (rec .entry)) (now (places .entry)) (now (own .entry)) (now (parents .entry)) (now (payloads .entry)) (now (fields .entry)) i n order m k t (now (out .entry)) at r (now (out .exit)) ⌝ }
+{
+    let checked = chunks::check_code(t);
+    let verdict = checked.verdict;
+    let u = checked.state;
+    match verdict {
+        Verdict::Refuse(why) => Step {
+            verdict: Verdict::Refuse(why),
+            at,
+            state: u,
+        },
+        Verdict::Pass => {
+            let emitted = emit(
+                rec,
+                out,
+                at,
+                order,
+                m,
+                places,
+                own,
+                parents,
+                payloads,
+                fields,
+                i,
+                n,
+                k,
+                t.shift,
+            );
+            let v = emitted.verdict;
+            Step {
+                verdict: v,
+                at: emitted.at,
+                state: u,
+            }
+        }
+    }
+}
+
+// ---- one field, all fields, and the end
+
+fn parse<'a>(
+    rec: &'a [u8],
+    out: &mut [u8],
+    at: usize,
+    order: EndiannessValue,
+    m: Arrays,
+    places: &[usize],
+    own: &[u64],
+    parents: &[u64],
+    payloads: &[u64],
+    fields: &[usize],
+    i: usize,
+    n: usize,
+    k: usize,
+    t: State,
+) -> Step
+    requires { ⌜ Turn (now rec) (now places) (now own) (now parents) (now payloads) (now fields) i n m k t ⌝ }
+    ensures { λ r. ⌜ Parsed (now (rec .entry)) (now (places .entry)) (now (own .entry)) (now (parents .entry)) (now (payloads .entry)) (now (fields .entry)) i n order m k t (now (out .entry)) at r (now (out .exit)) ⌝ }
+{
+    let f = references::field_in(rec, fields, i, k);
+    if runs::is_bit(rec, places, i, f) {
+        return parse_bit_field(
+            rec,
+            out,
+            at,
+            order,
+            m,
+            places,
+            own,
+            parents,
+            payloads,
+            fields,
+            i,
+            n,
+            k,
+            t,
+            f,
+        );
+    }
+    parse_other_field(
+        rec,
+        out,
+        at,
+        order,
+        m,
+        places,
+        own,
+        parents,
+        payloads,
+        fields,
+        i,
+        n,
+        k,
+        t,
+    )
+}
+
+// The lines end at p; a refusal has none.
+fn done(t: State, at: usize, p: usize) -> Lowered
+    ensures { λ r. ⌜ r ≡ doneBy (codeChecked t .verdict) at p ⌝ }
+{
+    let checked = chunks::check_code(t);
+    let verdict = checked.verdict;
+    match verdict {
+        Verdict::Pass => Lowered {
+            verdict: Verdict::Pass,
+            at: p,
+        },
+        Verdict::Refuse(why) => Lowered {
+            verdict: Verdict::Refuse(why),
+            at,
+        },
+    }
+}
+
+// The lines of the target behind refusals 1 to 9. On a refusal, what the fields before wrote stays in the buffer.
+pub fn lower_target(
+    rec: &[u8],
+    out: &mut [u8],
+    at: usize,
+    order: EndiannessValue,
+    m: Arrays,
+    places: &[usize],
+    own: &[u64],
+    parents: &[u64],
+    payloads: &[u64],
+    fields: &[usize],
+    i: usize,
+    n: usize,
+) -> Lowered
+    requires { ⌜ (n ≤ 64) × Fine (now rec) (now places) (now own) (now parents) (now payloads) (now fields) i n ⌝ }
+    ensures { λ r. ⌜ Lowers (rendered (lowerFields (settingAt (now (rec .entry)) (now (places .entry)) (now (own .entry)) (now (parents .entry)) (now (payloads .entry)) (now (fields .entry)) i n order m) (restAt (now (rec .entry)) (now (places .entry)) (now (own .entry)) (now (parents .entry)) (now (payloads .entry)) (now (fields .entry)) i n 0))) (now (out .entry)) at r (now (out .exit)) ⌝ }
+{
+    let mut t = chunks::new();
+    let mut p = at;
+    let mut k = 0;
+    while k < n {
+        let step = parse(
+            rec,
+            out,
+            p,
+            order,
+            m,
+            places,
+            own,
+            parents,
+            payloads,
+            fields,
+            i,
+            n,
+            k,
+            t,
+        );
+        let verdict = step.verdict;
+        match verdict {
+            Verdict::Refuse(why) => {
+                return Lowered {
+                    verdict: Verdict::Refuse(why),
+                    at,
+                };
+            }
+            Verdict::Pass => {
+                p = step.at;
+                let s = step.state;
+                t = s;
+                k += 1;
+            }
+        }
+    }
+    done(t, at, p)
+}

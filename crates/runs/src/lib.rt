@@ -1,0 +1,66 @@
+// Looking ahead over the widths: which fields gather in a chunk (`is_bitfield` of cxx.rs, without a condition), and the bits of those that follow one
+// another. The fields of the declaration with the index i are the n that the table has from 64 i on.
+use definitions::Cond;
+use definitions::Field;
+use definitions::Size;
+ghost use mathlib.Core.Path.{_≡_};
+ghost use mathlib.Core.List.{List};
+ghost use Prim.Native.Nat.{ℕ};
+ghost use Rattle.definitions.specs.FieldParser.{staticWidth, isBit};
+ghost use Rattle.definitions.specs.declared.Arrays.{Arrays};
+ghost use Rattle.definitions.specs.declared.EndiannessValue.{EndiannessValue};
+ghost use Rattle.stream.specs.Stream.{runBits};
+ghost use Rattle.emits.specs.Target.{settingAt, restAt, Fine};
+
+// A bit field without a condition. No size is looked at, so any size tables will do.
+pub fn is_bit(rec: &[u8], places: &[usize], i: usize, f: Field) -> bool
+    ensures { λ r. ⌜ ((own parents payloads fields : List ℕ) (n : ℕ) (order : EndiannessValue) (m : Arrays) → r ≡ isBit (settingAt (now (rec .entry)) (now (places .entry)) own parents payloads fields i n order m) f) ⌝ }
+{
+    let cond = f.cond;
+    let desc = f.desc;
+    match cond {
+        Cond::None => rows::is_bitfield(rec, places, i, desc),
+        Cond::Some { id: _, value: _ } => false,
+    }
+}
+
+// `static_().unwrap()`
+pub fn static_width(size: Size) -> u64
+    ensures { λ r. ⌜ r ≡ staticWidth size ⌝ }
+{
+    match size {
+        Size::Static(bits) => bits,
+        Size::Dynamic => 0,
+        Size::Unknown => 0,
+    }
+}
+
+// The bits of the bit fields from number k on, up to the next other field.
+pub fn run_bits(
+    rec: &[u8],
+    places: &[usize],
+    own: &[u64],
+    parents: &[u64],
+    payloads: &[u64],
+    fields: &[usize],
+    i: usize,
+    n: usize,
+    k: usize,
+) -> u64
+    requires { ⌜ Fine (now rec) (now places) (now own) (now parents) (now payloads) (now fields) i n ⌝ }
+    ensures { λ r. ⌜ ((order : EndiannessValue) (m : Arrays) → r ≡ runBits (settingAt (now (rec .entry)) (now (places .entry)) (now (own .entry)) (now (parents .entry)) (now (payloads .entry)) (now (fields .entry)) i n order m) (restAt (now (rec .entry)) (now (places .entry)) (now (own .entry)) (now (parents .entry)) (now (payloads .entry)) (now (fields .entry)) i n k)) ⌝ }
+{
+    let mut sum = 0;
+    let mut j = k;
+    while j < n {
+        let f = references::field_in(rec, fields, i, j);
+        if is_bit(rec, places, i, f) {
+            let size = annotate::field_size(rec, places, own, parents, payloads, fields, i, n, f);
+            sum += static_width(size);
+            j += 1;
+        } else {
+            return sum;
+        }
+    }
+    sum
+}
