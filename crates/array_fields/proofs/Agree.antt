@@ -1,12 +1,10 @@
 -- The block with its names as parts of the record is the definitions' block.
 -- Assumes nothing.
-use mathlib.Core.Bool.{Bool, true, false}
-use mathlib.Core.Path.{_≡_, refl, sym, ap, _∙_}
-use Prim.Native.Nat.{ℕ}
+use mathlib.Core.Bool.{true, false}
+use mathlib.Core.Path.{_≡_, refl}
 use Rattle.definitions.specs.Bytes.{Text, part}
-use Rattle.definitions.specs.Sizes.{EnumOf, enumIs, noEnum, enumOf, elementSize, arraySize}
-use Rattle.definitions.specs.Blocks.{Elem, Block}
-use Rattle.definitions.specs.FieldParser.{Setting, Emit, appends, typedElem, elemOf, withPadding, sizeBacking, parseArrayField}
+use Rattle.definitions.specs.Sizes.{EnumOf, enumIs, noEnum, enumOf}
+use Rattle.definitions.specs.FieldParser.{Setting, appends, typedElem, elemOf, sizeBacking, parseArrayField}
 use Rattle.definitions.specs.declared.EndiannessValue.{EndiannessValue}
 use Rattle.definitions.specs.declared.MaybeNumber.{MaybeNumber}
 use Rattle.definitions.specs.declared.MaybePart.{MaybePart}
@@ -14,9 +12,8 @@ use Rattle.definitions.specs.declared.Modifier.{Modifier}
 use Rattle.definitions.specs.declared.Part.{Part}
 use Rattle.rows.specs.Enums.{enumType}
 use Rattle.elements.specs.Elements.{elementOf}
-use Rattle.arrays.specs.Shapes as shapes
 use Rattle.emits.specs.BlockOf.{typeText, blockOf}
-use Rattle.array_fields.specs.Arrays.{typedElement, elementAt, bytesOf, arrayAt}
+use Rattle.array_fields.specs.Arrays.{typedElement, elementAt, arrayAt}
 
 typed-agree : (order : EndiannessValue) (type : Text) (e : EnumOf) → elementOf type (typedElement order (enumType e)) ≡ typedElem order type e
 typed-agree order type (enumIs width true isComplete) = refl

@@ -6,7 +6,7 @@ use mathlib.Core.List.{List}
 use mathlib.Core.Path.{_≡_, refl, sym, ap, _∙_}
 use borrow.Author.Tests.{ltb-false}
 use Rattle.definitions.specs.Bytes.{Text, pick}
-use Rattle.definitions.specs.Sizes.{Row, enumOf, elementSize, arraySize}
+use Rattle.definitions.specs.Sizes.{enumOf, elementSize, arraySize}
 use Rattle.definitions.specs.Refusals.{tooLarge, badMaybe}
 use Rattle.definitions.specs.Tables.{rowsFrom}
 use Rattle.definitions.specs.declared.ArraySize.{ArraySize}
@@ -16,7 +16,7 @@ use Rattle.definitions.specs.declared.MaybeNumber.{MaybeNumber}
 use Rattle.definitions.specs.declared.MaybePart.{MaybePart}
 use Rattle.definitions.specs.declared.Modifier.{Modifier}
 use Rattle.definitions.specs.declared.Part.{Part}
-use Rattle.bits.specs.Capped.{cap, cappedNumber}
+use Rattle.bits.specs.Capped.{cappedNumber}
 use Rattle.bits.proofs.Caps.{cap-under}
 use Rattle.rows.specs.Enums.{enumType}
 use Rattle.rows.specs.declared.EnumType.{EnumType}

@@ -1,8 +1,7 @@
 -- `parseArrayField` of the definitions with its names as parts of the record: `arrays-agree` (proofs/Agree) says that it is the same block.
 -- Assumes nothing.
-use mathlib.Core.Bool.{Bool, true, false}
 use mathlib.Core.List.{List}
-use Prim.Native.Nat.{ℕ, _/_}
+use Prim.Native.Nat.{_/_}
 use Rattle.definitions.specs.Bytes.{Text, pick}
 use Rattle.definitions.specs.Sizes.{Row, enumOf, elementSize, arraySize}
 use Rattle.definitions.specs.declared.EndiannessValue.{EndiannessValue}

@@ -1,13 +1,12 @@
 -- The answer for a field with and without a condition.
 -- Assumes nothing.
-use Prim.Native.Nat.{ℕ, _+_, _*_, _<_, _^_}
-use mathlib.Core.Bool.{Bool, true, false}
+use Prim.Native.Nat.{ℕ, _+_, _*_, _<_}
+use mathlib.Core.Bool.{true, false}
 use mathlib.Core.List.{List}
 use mathlib.Core.Path.{_≡_, sym, ap, subst, _∙_}
 use native.Mathlib.Omega.{arith}
-use lib.Dec.{ltb, eqb}
 use lib.ListN.{getD}
-use Rattle.definitions.specs.Bytes.{Text, text, pick}
+use Rattle.definitions.specs.Bytes.{Text, text}
 use Rattle.definitions.specs.Sizes.{Row, Annotated, EnumOf, enumIs, noEnum, enumOf, hasPayloadSize, descSize, annotateField}
 use Rattle.definitions.specs.Refusals.{largeSize}
 use Rattle.definitions.specs.FieldParser.{Setting, Emit, getTrailingSize, sizeBacking, parseOther, parseOptionalField, parseUnchecked}
@@ -20,39 +19,19 @@ use Rattle.definitions.specs.declared.FieldDesc.{FieldDesc}
 use Rattle.definitions.specs.declared.MaybeNumber.{MaybeNumber}
 use Rattle.definitions.specs.declared.Modifier.{Modifier}
 use Rattle.definitions.specs.declared.Part.{Part}
-use Rattle.definitions.specs.declared.Refusal.{Refusal}
 use Rattle.definitions.specs.declared.Size.{Size}
 use Rattle.rows.specs.Enums.{enumType}
-use Rattle.emits.specs.BlockOf.{blockOf, emitOf, EmitFits}
+use Rattle.emits.specs.BlockOf.{emitOf, EmitFits}
 use Rattle.emits.specs.Target.{rowsOf, fieldsOf, settingAt, annotatedAt, restAt, Fine}
-use Rattle.emits.specs.declared.BlockAt.{BlockAt}
 use Rattle.emits.specs.declared.EmitAt.{EmitAt}
 use Rattle.trailing.proofs.Rests.{size-fine}
+use Rattle.trailing.proofs.Fits.{typedef-fits, payload-fits}
 use Rattle.array_fields.proofs.Fits.{array-fits}
 use Rattle.fields.specs.Parsed.{Parsed}
-use Rattle.fields.specs.Values.{onBoundary, typedefUpTo, typedefBySize, typedefAt, optionalType, optionalAt, unsizedAt, payloadAt, otherAt}
+use Rattle.fields.specs.Values.{optionalType, optionalAt, otherAt}
 use Rattle.fields.proofs.Agree.{optionals-agree, others-agree}
 
 -- ---- what is no array fits
-
-boundary-fits : (b : Bool) (e : EmitAt) → EmitFits e → EmitFits (pick b e (EmitAt.Refuses Refusal.OctetBoundary))
-boundary-fits true e h = h
-boundary-fits false e h = tt
-
-picked-fits : (b : Bool) (x y : BlockAt) → EmitFits (EmitAt.Appends x) → EmitFits (EmitAt.Appends y) → EmitFits (EmitAt.Appends (pick b x y))
-picked-fits true x y hx hy = hx
-picked-fits false x y hx hy = hy
-
-typedef-fits : (id type : Part) (trailing : MaybeNumber) (z : Size) → EmitFits (typedefBySize id type trailing z)
-typedef-fits id type trailing (Size.Static bits) = omega arith
-typedef-fits id type trailing Size.Dynamic = omega arith
-typedef-fits id type MaybeNumber.None Size.Unknown = tt
-typedef-fits id type (MaybeNumber.Some bits) Size.Unknown = picked-fits (ltb 0 bits) _ _ (omega arith) (omega arith)
-
-payload-fits : (modifier : Modifier) (b : Bool) (trailing : MaybeNumber) → EmitFits (pick b (EmitAt.Appends (BlockAt.SizedPayload modifier)) (unsizedAt trailing))
-payload-fits modifier true trailing = omega arith
-payload-fits modifier false MaybeNumber.None = tt
-payload-fits modifier false (MaybeNumber.Some bits) = picked-fits (ltb 0 bits) _ _ (omega arith) (omega arith)
 
 optional-fits : (s : Text) (rows : List Row) (cond : Part) (value : ℕ) (d : FieldDesc) → EmitFits (optionalAt s rows cond value d)
 unfolding optionalAt
@@ -86,15 +65,15 @@ module _ (s : Text) (rows : List Row) (fs : List Field) (order : EndiannessValue
   other-fits (FieldDesc.Size of width) h = tt
   other-fits (FieldDesc.Count of width) h = tt
   other-fits (FieldDesc.ElementSize of width) h = tt
-  other-fits FieldDesc.Body h = boundary-fits (eqb shift 0) _ (payload-fits Modifier.None (hasPayloadSize s fs) trailing)
-  other-fits (FieldDesc.Payload modifier) h = boundary-fits (eqb shift 0) _ (payload-fits modifier (hasPayloadSize s fs) trailing)
+  other-fits FieldDesc.Body h = payload-fits shift Modifier.None (hasPayloadSize s fs) trailing
+  other-fits (FieldDesc.Payload modifier) h = payload-fits shift modifier (hasPayloadSize s fs) trailing
   other-fits (FieldDesc.FixedScalar width value) h = tt
   other-fits (FieldDesc.FixedEnum type tag) h = tt
   other-fits (FieldDesc.Reserved width) h = tt
   other-fits (FieldDesc.Array id width type modifier count) h = array-fits s rows fs id order padding width type modifier count h
   other-fits (FieldDesc.Scalar id width) h = tt
   other-fits (FieldDesc.Flag id) h = tt
-  other-fits (FieldDesc.Typedef id type) h = boundary-fits (eqb shift 0) _ (typedef-fits id type trailing size)
+  other-fits (FieldDesc.Typedef id type) h = typedef-fits shift id type size trailing
 
 -- ---- field k
 

@@ -1,10 +1,8 @@
 -- `parseOther` and `parseOptionalField` of the definitions with their names as parts of the record: `others-agree` and `optionals-agree`
 -- (proofs/Agree) say that they come to the same.
 -- Assumes nothing.
-use mathlib.Core.Bool.{Bool, true, false}
 use mathlib.Core.List.{List}
-use Prim.Native.Nat.{ℕ, _/_}
-use lib.Dec.{ltb, eqb}
+use Prim.Native.Nat.{ℕ}
 use Rattle.definitions.specs.Bytes.{Text, pick}
 use Rattle.definitions.specs.Sizes.{Row, enumOf, hasPayloadSize}
 use Rattle.definitions.specs.declared.EndiannessValue.{EndiannessValue}
@@ -19,30 +17,8 @@ use Rattle.rows.specs.Enums.{enumType}
 use Rattle.rows.specs.declared.EnumType.{EnumType}
 use Rattle.emits.specs.declared.BlockAt.{BlockAt}
 use Rattle.emits.specs.declared.EmitAt.{EmitAt}
+use Rattle.trailing.specs.Values.{typedefAt, payloadAt}
 use Rattle.array_fields.specs.Arrays.{arrayAt}
-
--- 11
-abbrev pub onBoundary : ℕ → EmitAt → EmitAt
-onBoundary shift next = pick (eqb shift 0) next (EmitAt.Refuses Refusal.OctetBoundary)
-
--- 14, or what the bits of the later fields give
-abbrev pub onTrailing : MaybeNumber → (ℕ → EmitAt) → EmitAt
-onTrailing MaybeNumber.None f = EmitAt.Refuses Refusal.MultipleUnknown
-onTrailing (MaybeNumber.Some bits) f = f bits
-
--- ---- a typedef
-
-abbrev pub typedefUpTo : Part → Part → MaybeNumber → EmitAt
-typedefUpTo id type trailing =
-    onTrailing trailing λ bits. EmitAt.Appends (pick (ltb 0 bits) (BlockAt.NestedUpTo id (bits / 8) type) (BlockAt.Nested id type))
-
-abbrev pub typedefBySize : Part → Part → MaybeNumber → Size → EmitAt
-typedefBySize id type trailing (Size.Static bits) = EmitAt.Appends (BlockAt.Nested id type)
-typedefBySize id type trailing Size.Dynamic = EmitAt.Appends (BlockAt.Nested id type)
-typedefBySize id type trailing Size.Unknown = typedefUpTo id type trailing
-
-abbrev pub typedefAt : ℕ → Part → Part → Size → MaybeNumber → EmitAt
-typedefAt shift id type size trailing = onBoundary shift (typedefBySize id type trailing size)
 
 -- ---- an optional field
 
@@ -70,14 +46,6 @@ optionalAt s rows cond value (FieldDesc.Array id width type modifier size) = uns
 optionalAt s rows cond value (FieldDesc.Scalar id width) = EmitAt.Appends (BlockAt.OptionalScalar cond value width id)
 optionalAt s rows cond value (FieldDesc.Flag id) = unsupported
 optionalAt s rows cond value (FieldDesc.Typedef id type) = optionalType cond value id type (enumType (enumOf s rows type))
-
--- ---- a payload or a body
-
-abbrev pub unsizedAt : MaybeNumber → EmitAt
-unsizedAt trailing = onTrailing trailing λ bits. EmitAt.Appends (pick (ltb 0 bits) (BlockAt.PayloadUpTo (bits / 8)) BlockAt.PayloadToEnd)
-
-abbrev pub payloadAt : ℕ → Modifier → Bool → MaybeNumber → EmitAt
-payloadAt shift modifier sized trailing = onBoundary shift (pick sized (EmitAt.Appends (BlockAt.SizedPayload modifier)) (unsizedAt trailing))
 
 -- ---- the arms for a field without a condition: `size` and `padding` are its own, `trailing` is of the fields behind it
 

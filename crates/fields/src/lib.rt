@@ -1,79 +1,23 @@
-// `parse` of cxx.rs for a field that is no bit field, as a value: `parse_typedef_field`, `parse_optional_field`, `parse_payload_field_lite` and the arm of
-// an array; refusals 11, 13 and 14. The field is number k of the n that the declaration with the index i has from 64 i on.
+// `parse` of cxx.rs for a field that is no bit field, as a value, with `parse_optional_field` (refusal 13): the arms of a typedef and a payload are in the
+// crate `trailing`, that of an array in `array_fields`. The field is number k of the n that the declaration with the index i has from 64 i on.
 
 use definitions::Cond;
 use definitions::EndiannessValue;
 use definitions::FieldDesc;
-use definitions::MaybeNumber;
 use definitions::Modifier;
 use definitions::Part;
 use definitions::Refusal;
-use definitions::Size;
 use emits::BlockAt;
 use emits::EmitAt;
 use rows::EnumType;
 ghost use mathlib.Core.Path.{_≡_};
 ghost use mathlib.Core.List.{List};
 ghost use Prim.Native.Nat.{ℕ, _+_, _<_};
-ghost use Rattle.definitions.specs.Sizes.{hasPayloadSize};
 ghost use Rattle.definitions.specs.FieldParser.{getTrailingSize};
 ghost use Rattle.definitions.specs.Tables.{rowsFrom};
 ghost use Rattle.emits.specs.Target.{rowsOf, fieldsOf, annotatedAt, restAt, Fine};
-ghost use Rattle.fields.specs.Values.{typedefUpTo, typedefAt, optionalType, optionalAt, unsizedAt, payloadAt, otherAt};
+ghost use Rattle.fields.specs.Values.{optionalType, optionalAt, otherAt};
 ghost use Rattle.fields.specs.Parsed.{Parsed};
-
-// ---- a typedef of a type that is no enum
-
-fn typedef_up_to(id: Part, type_id: Part, trailing_size: MaybeNumber) -> EmitAt
-    ensures { λ r. ⌜ r ≡ typedefUpTo id «type_id» «trailing_size» ⌝ }
-{
-    match trailing_size {
-        MaybeNumber::None => EmitAt::Refuses(Refusal::MultipleUnknown),
-        MaybeNumber::Some(bits) => {
-            if 0 < bits {
-                return EmitAt::Appends(BlockAt::NestedUpTo {
-                    id,
-                    bytes: bits / 8,
-                    type_id,
-                });
-            }
-            EmitAt::Appends(BlockAt::Nested { id, type_id })
-        }
-    }
-}
-
-fn parse_typedef_field(
-    rec: &[u8],
-    places: &[usize],
-    own: &[u64],
-    parents: &[u64],
-    payloads: &[u64],
-    fields: &[usize],
-    i: usize,
-    n: usize,
-    k: usize,
-    shift: u64,
-    id: Part,
-    type_id: Part,
-) -> EmitAt
-    requires { ⌜ k < n ⌝ }
-    requires { ⌜ Fine (now rec) (now places) (now own) (now parents) (now payloads) (now fields) i n ⌝ }
-    ensures { λ r. ⌜ r ≡ typedefAt shift id «type_id» (annotatedAt (now (rec .entry)) (now (places .entry)) (now (own .entry)) (now (parents .entry)) (now (payloads .entry)) (now (fields .entry)) i n k .fieldSize) (getTrailingSize (restAt (now (rec .entry)) (now (places .entry)) (now (own .entry)) (now (parents .entry)) (now (payloads .entry)) (now (fields .entry)) i n (k + 1))) ⌝ }
-{
-    if shift != 0 {
-        return EmitAt::Refuses(Refusal::OctetBoundary);
-    }
-    let size = trailing::field_size(rec, places, own, parents, payloads, fields, i, n, k);
-    match size {
-        Size::Static(_) => EmitAt::Appends(BlockAt::Nested { id, type_id }),
-        Size::Dynamic => EmitAt::Appends(BlockAt::Nested { id, type_id }),
-        Size::Unknown => typedef_up_to(
-            id,
-            type_id,
-            trailing::get_trailing_size(rec, places, own, parents, payloads, fields, i, n, k),
-        ),
-    }
-}
 
 // ---- an optional field
 
@@ -171,58 +115,6 @@ fn parse_optional_field(
     }
 }
 
-// ---- a payload or a body
-
-fn unsized_payload(trailing_size: MaybeNumber) -> EmitAt
-    ensures { λ r. ⌜ r ≡ unsizedAt «trailing_size» ⌝ }
-{
-    match trailing_size {
-        MaybeNumber::None => EmitAt::Refuses(Refusal::MultipleUnknown),
-        MaybeNumber::Some(bits) => {
-            if 0 < bits {
-                return EmitAt::Appends(BlockAt::PayloadUpTo(bits / 8));
-            }
-            EmitAt::Appends(BlockAt::PayloadToEnd)
-        }
-    }
-}
-
-fn parse_payload_field_lite(
-    rec: &[u8],
-    places: &[usize],
-    own: &[u64],
-    parents: &[u64],
-    payloads: &[u64],
-    fields: &[usize],
-    i: usize,
-    n: usize,
-    k: usize,
-    shift: u64,
-    size_modifier: Modifier,
-) -> EmitAt
-    requires { ⌜ k < n ⌝ }
-    requires { ⌜ Fine (now rec) (now places) (now own) (now parents) (now payloads) (now fields) i n ⌝ }
-    ensures { λ r. ⌜ r ≡ payloadAt shift «size_modifier» (hasPayloadSize (now (rec .entry)) (fieldsOf (now (rec .entry)) (now (places .entry)) (now (own .entry)) (now (parents .entry)) (now (payloads .entry)) (now (fields .entry)) i n)) (getTrailingSize (restAt (now (rec .entry)) (now (places .entry)) (now (own .entry)) (now (parents .entry)) (now (payloads .entry)) (now (fields .entry)) i n (k + 1))) ⌝ }
-{
-    if shift != 0 {
-        return EmitAt::Refuses(Refusal::OctetBoundary);
-    }
-    if references::has_payload_size(rec, fields, i, n) {
-        return EmitAt::Appends(BlockAt::SizedPayload(size_modifier));
-    }
-    unsized_payload(trailing::get_trailing_size(
-        rec,
-        places,
-        own,
-        parents,
-        payloads,
-        fields,
-        i,
-        n,
-        k,
-    ))
-}
-
 // ---- `parse`
 
 // Its arms for a field without a condition; bit fields do not come here.
@@ -259,7 +151,7 @@ fn parse_other(
             field_id: _,
             width: _,
         } => EmitAt::Silent,
-        FieldDesc::Body => parse_payload_field_lite(
+        FieldDesc::Body => trailing::parse_payload_field_lite(
             rec,
             places,
             own,
@@ -272,7 +164,7 @@ fn parse_other(
             shift,
             Modifier::None,
         ),
-        FieldDesc::Payload { size_modifier } => parse_payload_field_lite(
+        FieldDesc::Payload { size_modifier } => trailing::parse_payload_field_lite(
             rec,
             places,
             own,
@@ -316,7 +208,7 @@ fn parse_other(
         )),
         FieldDesc::Scalar { id: _, width: _ } => EmitAt::Silent,
         FieldDesc::Flag { id: _ } => EmitAt::Silent,
-        FieldDesc::Typedef { id, type_id } => parse_typedef_field(
+        FieldDesc::Typedef { id, type_id } => trailing::parse_typedef_field(
             rec,
             places,
             own,

@@ -1,2 +1,5 @@
 pub mod Rests
 pub mod Trailing
+pub mod Arms
+pub mod Agree
+pub mod Fits

@@ -1,20 +1,17 @@
 -- The sum over the later fields, turn by turn.
 -- Assumes nothing.
 use Prim.Native.Nat.{ℕ, _+_, _≤_, _<_, _^_}
-use mathlib.Core.List.{List, [], _∷_}
+use mathlib.Core.List.{List, _∷_}
 use mathlib.Core.Path.{_≡_, sym, ap, _∙_}
-use native.Mathlib.Nat.{add-assoc}
 use native.Mathlib.Omega.{arith}
 use Rattle.definitions.specs.Bytes.{Text}
 use Rattle.definitions.specs.Sizes.{Annotated}
-use Rattle.definitions.specs.Refusals.{largeSize, staticBits, staticSum}
+use Rattle.definitions.specs.Refusals.{staticBits, staticSum}
 use Rattle.definitions.specs.FieldParser.{trailingFrom}
-use Rattle.definitions.specs.Tables.{fieldHere}
-use Rattle.definitions.specs.declared.Field.{Field}
 use Rattle.definitions.specs.declared.MaybeNumber.{MaybeNumber}
 use Rattle.definitions.specs.declared.Size.{Size}
 use Rattle.emits.specs.Target.{restAt, annotatedAt, Fine}
-use Rattle.trailing.specs.Statics.{staticNumber}
+use Rattle.trailing.specs.Values.{staticNumber}
 use Rattle.trailing.proofs.Rests.{rest-end, rest-more, sum-fine}
 
 pub static-as : {z c : Size} {r : MaybeNumber} → z ≡ c → r ≡ staticNumber c → r ≡ staticNumber z

@@ -1,1 +1,1 @@
-pub mod Statics
+pub mod Values

@@ -1,13 +1,21 @@
-// `get_trailing_size` of cxx.rs, and the size of a field behind refusal 7, where nothing is over the limit. The field is number k of the n that the
-// declaration with the index i has from 64 i on.
+// `parse_typedef_field` and `parse_payload_field_lite` of cxx.rs as values, with `get_trailing_size`: refusals 11 and 14. The field is number k of the n
+// that the declaration with the index i has from 64 i on, behind refusal 7, so that no size is over the limit.
 
 use definitions::MaybeNumber;
+use definitions::Modifier;
+use definitions::Part;
+use definitions::Refusal;
 use definitions::Size;
+use emits::BlockAt;
+use emits::EmitAt;
 ghost use mathlib.Core.Path.{_≡_};
 ghost use Prim.Native.Nat.{_+_, _<_};
+ghost use Rattle.definitions.specs.Sizes.{hasPayloadSize};
 ghost use Rattle.definitions.specs.FieldParser.{getTrailingSize};
-ghost use Rattle.emits.specs.Target.{restAt, annotatedAt, Fine};
-ghost use Rattle.trailing.specs.Statics.{staticNumber};
+ghost use Rattle.emits.specs.Target.{fieldsOf, restAt, annotatedAt, Fine};
+ghost use Rattle.trailing.specs.Values.{staticNumber, typedefUpTo, typedefAt, unsizedAt, payloadAt};
+
+// ---- the fields behind
 
 // `static_` of analyzer.rs.
 fn static_bits(size: Size) -> MaybeNumber
@@ -21,7 +29,7 @@ fn static_bits(size: Size) -> MaybeNumber
 }
 
 // `schema.field_size` of field k.
-pub fn field_size(
+fn field_size(
     rec: &[u8],
     places: &[usize],
     own: &[u64],
@@ -41,7 +49,7 @@ pub fn field_size(
 }
 
 // The bits of all fields behind number k; none where one of them is not static.
-pub fn get_trailing_size(
+fn get_trailing_size(
     rec: &[u8],
     places: &[usize],
     own: &[u64],
@@ -67,4 +75,99 @@ pub fn get_trailing_size(
         j += 1;
     }
     MaybeNumber::Some(trailing_size)
+}
+
+// ---- a typedef of a type that is no enum
+
+fn typedef_up_to(id: Part, type_id: Part, trailing_size: MaybeNumber) -> EmitAt
+    ensures { λ r. ⌜ r ≡ typedefUpTo id «type_id» «trailing_size» ⌝ }
+{
+    match trailing_size {
+        MaybeNumber::None => EmitAt::Refuses(Refusal::MultipleUnknown),
+        MaybeNumber::Some(bits) => {
+            if 0 < bits {
+                return EmitAt::Appends(BlockAt::NestedUpTo {
+                    id,
+                    bytes: bits / 8,
+                    type_id,
+                });
+            }
+            EmitAt::Appends(BlockAt::Nested { id, type_id })
+        }
+    }
+}
+
+pub fn parse_typedef_field(
+    rec: &[u8],
+    places: &[usize],
+    own: &[u64],
+    parents: &[u64],
+    payloads: &[u64],
+    fields: &[usize],
+    i: usize,
+    n: usize,
+    k: usize,
+    shift: u64,
+    id: Part,
+    type_id: Part,
+) -> EmitAt
+    requires { ⌜ k < n ⌝ }
+    requires { ⌜ Fine (now rec) (now places) (now own) (now parents) (now payloads) (now fields) i n ⌝ }
+    ensures { λ r. ⌜ r ≡ typedefAt shift id «type_id» (annotatedAt (now (rec .entry)) (now (places .entry)) (now (own .entry)) (now (parents .entry)) (now (payloads .entry)) (now (fields .entry)) i n k .fieldSize) (getTrailingSize (restAt (now (rec .entry)) (now (places .entry)) (now (own .entry)) (now (parents .entry)) (now (payloads .entry)) (now (fields .entry)) i n (k + 1))) ⌝ }
+{
+    if shift != 0 {
+        return EmitAt::Refuses(Refusal::OctetBoundary);
+    }
+    let size = field_size(rec, places, own, parents, payloads, fields, i, n, k);
+    match size {
+        Size::Static(_) => EmitAt::Appends(BlockAt::Nested { id, type_id }),
+        Size::Dynamic => EmitAt::Appends(BlockAt::Nested { id, type_id }),
+        Size::Unknown => typedef_up_to(
+            id,
+            type_id,
+            get_trailing_size(rec, places, own, parents, payloads, fields, i, n, k),
+        ),
+    }
+}
+
+// ---- a payload or a body
+
+fn unsized_payload(trailing_size: MaybeNumber) -> EmitAt
+    ensures { λ r. ⌜ r ≡ unsizedAt «trailing_size» ⌝ }
+{
+    match trailing_size {
+        MaybeNumber::None => EmitAt::Refuses(Refusal::MultipleUnknown),
+        MaybeNumber::Some(bits) => {
+            if 0 < bits {
+                return EmitAt::Appends(BlockAt::PayloadUpTo(bits / 8));
+            }
+            EmitAt::Appends(BlockAt::PayloadToEnd)
+        }
+    }
+}
+
+pub fn parse_payload_field_lite(
+    rec: &[u8],
+    places: &[usize],
+    own: &[u64],
+    parents: &[u64],
+    payloads: &[u64],
+    fields: &[usize],
+    i: usize,
+    n: usize,
+    k: usize,
+    shift: u64,
+    size_modifier: Modifier,
+) -> EmitAt
+    requires { ⌜ k < n ⌝ }
+    requires { ⌜ Fine (now rec) (now places) (now own) (now parents) (now payloads) (now fields) i n ⌝ }
+    ensures { λ r. ⌜ r ≡ payloadAt shift «size_modifier» (hasPayloadSize (now (rec .entry)) (fieldsOf (now (rec .entry)) (now (places .entry)) (now (own .entry)) (now (parents .entry)) (now (payloads .entry)) (now (fields .entry)) i n)) (getTrailingSize (restAt (now (rec .entry)) (now (places .entry)) (now (own .entry)) (now (parents .entry)) (now (payloads .entry)) (now (fields .entry)) i n (k + 1))) ⌝ }
+{
+    if shift != 0 {
+        return EmitAt::Refuses(Refusal::OctetBoundary);
+    }
+    if references::has_payload_size(rec, fields, i, n) {
+        return EmitAt::Appends(BlockAt::SizedPayload(size_modifier));
+    }
+    unsized_payload(get_trailing_size(rec, places, own, parents, payloads, fields, i, n, k))
 }

@@ -1,9 +1,9 @@
--- `fields::typedef_up_to` meets its contract.
+-- `trailing::typedef_up_to` meets its contract.
 -- Assumes nothing.
-use Rattle.fields.proofs.Arms.{typedef-none, typedef-some, typedef-whole}
+use Rattle.trailing.proofs.Arms.{typedef-none, typedef-some, typedef-whole}
 use borrow.Author.Needs.{needs}
-use Rattle.fields.proofs.typedef_up_to.Statement.{statement}
-use Rattle.fields.proofs.typedef_up_to.Tie as tie
+use Rattle.trailing.proofs.typedef_up_to.Statement.{statement}
+use Rattle.trailing.proofs.typedef_up_to.Tie as tie
 
 enum-told : tie.Need-enum-told
 enum-told c = search needs

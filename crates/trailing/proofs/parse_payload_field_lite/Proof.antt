@@ -1,9 +1,9 @@
--- `fields::parse_payload_field_lite` meets its contract.
+-- `trailing::parse_payload_field_lite` meets its contract.
 -- Assumes nothing.
-use Rattle.fields.proofs.Arms.{payload-off, payload-sized, payload-unsized}
+use Rattle.trailing.proofs.Arms.{payload-off, payload-sized, payload-unsized}
 use borrow.Author.Needs.{needs}
-use Rattle.fields.proofs.parse_payload_field_lite.Statement.{statement}
-use Rattle.fields.proofs.parse_payload_field_lite.Tie as tie
+use Rattle.trailing.proofs.parse_payload_field_lite.Statement.{statement}
+use Rattle.trailing.proofs.parse_payload_field_lite.Tie as tie
 
 returns : tie.Need-returns
 returns c = search (payload-off, needs)

@@ -1,9 +1,9 @@
--- `fields::unsized_payload` meets its contract.
+-- `trailing::unsized_payload` meets its contract.
 -- Assumes nothing.
-use Rattle.fields.proofs.Arms.{payload-none, payload-some, payload-whole}
+use Rattle.trailing.proofs.Arms.{payload-none, payload-some, payload-whole}
 use borrow.Author.Needs.{needs}
-use Rattle.fields.proofs.unsized_payload.Statement.{statement}
-use Rattle.fields.proofs.unsized_payload.Tie as tie
+use Rattle.trailing.proofs.unsized_payload.Statement.{statement}
+use Rattle.trailing.proofs.unsized_payload.Tie as tie
 
 enum-told : tie.Need-enum-told
 enum-told c = search needs

@@ -1,9 +1,9 @@
--- `fields::parse_typedef_field` meets its contract.
+-- `trailing::parse_typedef_field` meets its contract.
 -- Assumes nothing.
-use Rattle.fields.proofs.Arms.{typedef-off, typedef-by, typedef-unknown}
+use Rattle.trailing.proofs.Arms.{typedef-off, typedef-by, typedef-unknown}
 use borrow.Author.Needs.{needs}
-use Rattle.fields.proofs.parse_typedef_field.Statement.{statement}
-use Rattle.fields.proofs.parse_typedef_field.Tie as tie
+use Rattle.trailing.proofs.parse_typedef_field.Statement.{statement}
+use Rattle.trailing.proofs.parse_typedef_field.Tie as tie
 
 returns : tie.Need-returns
 returns c = search (typedef-off, needs)
