@@ -1,0 +1,4 @@
+pub mod Passes
+pub mod Targets
+pub mod Records
+pub mod Demands

@@ -1,0 +1,134 @@
+-- Behind refusals 7 to 9: the target stands in the tables at the index that `check_sizes` gives, its fields are behind refusal 7, and lowering them is
+-- lowering the record.
+-- Assumes nothing.
+use Prim.Native.Nat.{ℕ, zero, suc, _+_, _*_, _-_, _^_, _≤_, _<_}
+use mathlib.Core.Bool.{Bool, true, false, _&&_, _||_}
+use mathlib.Core.List.{List, []}
+use mathlib.Core.Path.{_≡_, refl, sym, ap, _∙_, subst}
+use native.Mathlib.Nat.{zero-add, add-zero, sub-zero}
+use native.Mathlib.Omega.{arith}
+use lib.ListN.{length, getD}
+use Rattle.definitions.specs.Bytes.{Text, any}
+use Rattle.definitions.specs.Record.{Declaration, onFound}
+use Rattle.definitions.specs.Sizes.{Schema, Annotated, sameName, annotateFields, newSchema}
+use Rattle.definitions.specs.Refusals.{number, tooLarge, largeField, largeRow, largeEntry, staticSum, large, ragged, isFrame}
+use Rattle.definitions.specs.Tables.{fieldsFrom, declarationsFrom}
+use Rattle.definitions.specs.FieldParser.{Setting, Outcome, refused, lowerFields}
+use Rattle.definitions.specs.Answer.{lowerTarget, lowerIn}
+use Rattle.definitions.specs.declared.Found.{Found}
+use Rattle.definitions.specs.declared.Head.{Head}
+use Rattle.definitions.specs.declared.Part.{Part}
+use Rattle.definitions.specs.declared.Refusal.{Refusal}
+use Rattle.bits.proofs.Booleans.{or-left, or-right}
+use Rattle.schema.specs.Entries.{entryIn, entriesFrom}
+use Rattle.sizes.specs.Answers.{targetFrom, targetOr, behindSchema, checkSizes, Checked}
+use Rattle.sizes.specs.declared.Sizing.{Sizing}
+use Rattle.sizes.proofs.Targets.{lower-target}
+use Rattle.sizes.proofs.Fine.{entry-fine}
+use Rattle.emits.specs.Target.{rowsOf, fieldsOf, settingAt, restAt, Fine}
+use Rattle.lowering.specs.Steps.{Answers, Few, Ready, lowerSized}
+use Rattle.lowering.proofs.Passes.{refuses-all}
+
+-- ---- what `check_sizes` answers
+
+-- a target: 7 is not met, and 9 is not
+chosen : (s : Text) (h : Head) (schema : Schema) (i : ℕ) → checkSizes s h schema ≡ Sizing.Target i
+    → (large schema ≡ false) × (targetFrom s (h .target) 0 schema ≡ Found.At i)
+unfolding checkSizes behindSchema
+chosen s h schema i = by (large schema) (ragged s schema) (targetFrom s (h .target) 0 schema)
+  where
+    by : (b d : Bool) (f : Found)
+        → _≡_ {A = Sizing} (elim b [ true ↦ Sizing.Refuse Refusal.TooLarge | false ↦ elim d [ true ↦ Sizing.Refuse Refusal.NotWholeBytes | false ↦ targetOr f ] ]) (Sizing.Target i)
+        → (b ≡ false) × (f ≡ Found.At i)
+    by true d f k = absurd (let z : _≡_ {A = ℕ} 0 1 = cc in omega arith)
+    by false true f k = absurd (let z : _≡_ {A = ℕ} 0 1 = cc in omega arith)
+    by false false (Found.At j) k = (refl, (let q : j ≡ i = cc in ap Found.At q))
+    by false false Found.Nothing k = absurd (let z : _≡_ {A = ℕ} 0 1 = cc in omega arith)
+
+-- the target's index is one of the table's
+within : (s : Text) (name : Part) (p f c own par pay : List ℕ) (j m i : ℕ) → targetFrom s name j (entriesFrom s p f c own par pay j m) ≡ Found.At i → i < j + m
+unfolding targetFrom entriesFrom
+within s name p f c own par pay j zero i e = absurd (let z : _≡_ {A = ℕ} 0 1 = cc in omega arith)
+within s name p f c own par pay j (suc m) i e =
+    by (sameName s (entryIn s p f c own par pay j .row .decl .id) name && isFrame (entryIn s p f c own par pay j .row .decl .desc)) e
+    (λ k. within s name p f c own par pay (j + 1) m i k)
+  where
+    by : (b : Bool) → _≡_ {A = Found} (elim b [ true ↦ Found.At j | false ↦ targetFrom s name (j + 1) (entriesFrom s p f c own par pay (j + 1) m) ]) (Found.At i)
+        → (targetFrom s name (j + 1) (entriesFrom s p f c own par pay (j + 1) m) ≡ Found.At i → i < j + 1 + m) → i < j + suc m
+    by true k further = let q : j ≡ i = cc in omega arith
+    by false k further = omega (arith, further k)
+
+sized-refused : (s : Text) (h : Head) (schema : Schema) (why : Refusal) → checkSizes s h schema ≡ Sizing.Refuse why → lowerSized s h schema ≡ refused why
+unfolding lowerSized
+sized-refused s h schema why e = rw (e, lowerSized)
+
+sized-target : (s : Text) (h : Head) (schema : Schema) (i : ℕ) → checkSizes s h schema ≡ Sizing.Target i → lowerSized s h schema ≡ lowerIn s h schema
+unfolding lowerSized
+sized-target s h schema i e = rw (e, lowerSized)
+
+-- ---- over the tables of n declarations
+
+module _ (s : Text) (h : Head) (p f c own par pay : List ℕ) (n : ℕ) {x : Sizing}
+    (k : Checked s h (declarationsFrom s p f c 0 n) (entriesFrom s p f c own par pay 0 n) x) where
+  pub check-refused : {why : Refusal} → x ≡ Sizing.Refuse why → {out : Text} {r : ℕ} → r ≡ number why * 2 ^ 32
+      → Answers (lowerSized s h (newSchema s (declarationsFrom s p f c 0 n))) out r out
+  check-refused {why} hx {out} {r} e =
+      subst (λ (o : Outcome). Answers o out r out) (sym (sized-refused s h (newSchema s (declarationsFrom s p f c 0 n)) why (sym (k .answer) ∙ hx)))
+      (refuses-all why out e)
+
+  module _ {i : ℕ} (hx : x ≡ Sizing.Target i) where
+    is-chosen : (large (newSchema s (declarationsFrom s p f c 0 n)) ≡ false) × (targetFrom s (h .target) 0 (newSchema s (declarationsFrom s p f c 0 n)) ≡ Found.At i)
+    is-chosen = chosen s h (newSchema s (declarationsFrom s p f c 0 n)) i (sym (k .answer) ∙ hx)
+
+    same : entriesFrom s p f c own par pay 0 n ≡ newSchema s (declarationsFrom s p f c 0 n)
+    same = k .tables (is-chosen .0)
+
+    found : targetFrom s (h .target) 0 (entriesFrom s p f c own par pay 0 n) ≡ Found.At i
+    found = ap (targetFrom s (h .target) 0) same ∙ is-chosen .1
+
+    target-within : i < n
+    target-within = omega (arith, within s (h .target) p f c own par pay 0 n i found)
+
+    -- `restAt` from the first field on
+    rest-all : restAt s p own par pay f i (getD c i 0) 0 ≡ entryIn s p f c own par pay i .fields
+    rest-all =
+        ap (λ (j : ℕ). annotateFields s (rowsOf s p own par pay f i (getD c i 0)) (fieldsOf s p own par pay f i (getD c i 0)) (fieldsFrom s f j (getD c i 0 - 0))) (add-zero (i * 64))
+        ∙ ap (λ (m : ℕ). annotateFields s (rowsOf s p own par pay f i (getD c i 0)) (fieldsOf s p own par pay f i (getD c i 0)) (fieldsFrom s f (i * 64) m)) (sub-zero (getD c i 0))
+
+    not-large : largeEntry (entryIn s p f c own par pay i) ≡ false
+    not-large = entry-fine s p f c own par pay n i target-within (ap large same ∙ is-chosen .0)
+
+    target-fine : {m : ℕ} → m ≡ getD c i 0 → Fine s p own par pay f i m
+    target-fine e = subst (λ (m : ℕ). Fine s p own par pay f i m) (sym e) (record {
+      sizes =
+          ap (any largeField) rest-all
+          ∙ or-left (any largeField (entryIn s p f c own par pay i .fields)) (largeRow (entryIn s p f c own par pay i .row))
+          (or-left (any largeField (entryIn s p f c own par pay i .fields) || largeRow (entryIn s p f c own par pay i .row))
+          (tooLarge (staticSum (entryIn s p f c own par pay i .fields))) not-large);
+      sum =
+          ap (λ (xs : List Annotated). tooLarge (staticSum xs)) rest-all
+          ∙ or-right (any largeField (entryIn s p f c own par pay i .fields) || largeRow (entryIn s p f c own par pay i .row))
+          (tooLarge (staticSum (entryIn s p f c own par pay i .fields))) not-large;
+    })
+
+    target-lowered : lowerFields (settingAt s p own par pay f i (getD c i 0) (h .endianness) (h .arrays)) (restAt s p own par pay f i (getD c i 0) 0)
+        ≡ lowerSized s h (newSchema s (declarationsFrom s p f c 0 n))
+    target-lowered =
+        ap (lowerFields (settingAt s p own par pay f i (getD c i 0) (h .endianness) (h .arrays))) rest-all
+        ∙ sym (ap (λ (r : Found). onFound r (refused Refusal.NoTarget) (λ k. lowerTarget s h (entryIn s p f c own par pay k))) found)
+        ∙ sym (lower-target s h p f c own par pay 0 n)
+        ∙ ap (lowerIn s h) same
+        ∙ sym (sized-target s h (newSchema s (declarationsFrom s p f c 0 n)) i (sym (k .answer) ∙ hx))
+
+    pub target-answers : {m : ℕ} → m ≡ getD c i 0 → {out left : Text} {r : ℕ}
+        → Answers (lowerFields (settingAt s p own par pay f i m (h .endianness) (h .arrays)) (restAt s p own par pay f i m 0)) out r left
+        → Answers (lowerSized s h (newSchema s (declarationsFrom s p f c 0 n))) out r left
+    target-answers {m} e {out} {left} {r} a =
+        subst (λ (o : Outcome). Answers o out r left) target-lowered
+        (subst (λ (m : ℕ). Answers (lowerFields (settingAt s p own par pay f i m (h .endianness) (h .arrays)) (restAt s p own par pay f i m 0)) out r left) e a)
+
+    pub target-ready : Few c n → {m : ℕ} → m ≡ getD c i 0 → Ready s p own par pay f i m
+    target-ready few e = record {
+      fine = target-fine e;
+      short = omega (arith, few .fields i target-within, e);
+    }

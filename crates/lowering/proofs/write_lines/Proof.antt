@@ -1,0 +1,55 @@
+-- `lowering::write_lines` meets its contract, by the laws of Passes.
+-- Assumes nothing.
+use Rattle.lowering.proofs.Passes.{pass-refused, pass-no-room, pass-written}
+use borrow.Author.Needs.{needs}
+use Rattle.lowering.proofs.write_lines.Statement.{statement}
+use Rattle.lowering.proofs.write_lines.Tie as tie
+
+slice-aggregate-lower-target : tie.Need-slice-aggregate-lower-target
+slice-aggregate-lower-target c = search needs
+
+lower-target-requires : tie.Need-lower-target-requires
+lower-target-requires c κs = search needs
+
+enum-known-verdict : tie.Need-enum-known-verdict
+enum-known-verdict c = search needs
+
+turned-back-requires : tie.Need-turned-back-requires
+turned-back-requires c κs = search needs
+
+enum-told : tie.Need-enum-told
+enum-told c = search needs
+
+turned-back-requires-2 : tie.Need-turned-back-requires-2
+turned-back-requires-2 c κs = search needs
+
+returns : tie.Need-returns
+returns c = search (pass-no-room, needs)
+
+lower-target-requires-2 : tie.Need-lower-target-requires-2
+lower-target-requires-2 c κs = search needs
+
+returns-2 : tie.Need-returns-2
+returns-2 c = search (pass-refused, needs)
+
+same-length : tie.Need-same-length
+same-length c = search needs
+
+returns-3 : tie.Need-returns-3
+returns-3 c = search (pass-written, needs)
+
+pub write-lines-spec : {M : Type 1} → statement M
+write-lines-spec =
+    tie.close
+    (tie.spec
+    slice-aggregate-lower-target
+    lower-target-requires
+    enum-known-verdict
+    turned-back-requires
+    enum-told
+    turned-back-requires-2
+    returns
+    lower-target-requires-2
+    returns-2
+    same-length
+    returns-3)

@@ -1,0 +1,33 @@
+-- What the steps of `lower` answer, by the definitions of its answer.
+-- Assumes nothing.
+use mathlib.Core.List.{List}
+use mathlib.Core.Path.{_≡_}
+use Prim.Native.Nat.{ℕ, _≤_, _<_}
+use lib.ListN.{length, getD}
+use Rattle.definitions.specs.Bytes.{Text}
+use Rattle.definitions.specs.Sizes.{Schema}
+use Rattle.definitions.specs.FieldParser.{Outcome, refused}
+use Rattle.definitions.specs.Answer.{lowerIn, lowered, word, bufferAfter}
+use Rattle.definitions.specs.declared.Head.{Head}
+use Rattle.sizes.specs.Answers.{checkSizes}
+use Rattle.sizes.specs.declared.Sizing.{Sizing}
+use Rattle.emits.specs.Target.{Fine}
+
+-- the number and the buffer for an outcome: 15 on top
+pub record Answers (o : Outcome) (out : Text) (r : ℕ) (left : Text) : Type 0 where
+  pub number-is : r ≡ word (lowered (length out) o)
+  pub buffer-is : left ≡ bufferAfter (lowered (length out) o) out
+
+-- 7 to 9, and then the target
+unfoldable pub lowerSized : Text → Head → Schema → Outcome
+lowerSized s h schema = elim (checkSizes s h schema) [ Sizing.Target i ↦ lowerIn s h schema | Sizing.Refuse why ↦ refused why ]
+
+-- behind refusal 3: the tables of n declarations
+pub record Few (counts : List ℕ) (n : ℕ) : Type 0 where
+  pub declarations : n ≤ 32
+  pub fields : (i : ℕ) → i < n → getD counts i 0 ≤ 64
+
+-- behind refusals 3 and 7: the target, of n fields
+pub record Ready (s : Text) (places own parents payloads fields : List ℕ) (i n : ℕ) : Type 0 where
+  pub short : n ≤ 64
+  pub fine : Fine s places own parents payloads fields i n
