@@ -1,3 +1,1 @@
-pub mod Lite
-pub mod Full
 pub mod Modifiers

@@ -18,7 +18,9 @@ use Rattle.expressions.specs.Statements.{stmtsBytes}
 use Rattle.expressions.proofs.Follow.{follow}
 use Rattle.elements.specs.Elements.{elementOf}
 use Rattle.elements.specs.declared.Element.{Element}
-use Rattle.arrays.specs.Shapes.{liteText, fullText, modifiedText, modifierText, arrayOf, arrayText}
+use Rattle.lite_arrays.specs.Shapes.{liteText}
+use Rattle.full_arrays.specs.Shapes.{fullText}
+use Rattle.arrays.specs.Shapes.{modifiedText, modifierText, arrayOf, arrayText}
 
 pub modified-line : (x sign : Text) (n : ℕ) {l l₁ l₂ l₃ : Text} {i r₁ r₂ r₃ : ℕ} → Put l i (x ++ text " = ") r₁ l₁ → Put l₁ r₁ x r₂ l₂
     → Put l₂ r₂ (sign ++ (decimal n ++ text ";\n")) r₃ l₃

@@ -1,8 +1,7 @@
 -- The kind with its names as parts of the record is the definitions' kind.
 -- Assumes nothing.
-use mathlib.Core.Bool.{Bool, true, false, _||_}
-use mathlib.Core.Path.{_≡_, refl}
-use mathlib.Core.List.{List}
+use mathlib.Core.Bool.{Bool, true, false}
+use mathlib.Core.Path.{_≡_, refl, ap, _∙_}
 use Rattle.definitions.specs.Bytes.{Text, text, pick, part}
 use Rattle.definitions.specs.Sizes.{EnumOf, enumIs, noEnum, enumOf, isPayloadId}
 use Rattle.definitions.specs.Blocks.{Kind, named}
@@ -11,13 +10,14 @@ use Rattle.definitions.specs.FieldParser as parser
 use Rattle.definitions.specs.declared.Arrays.{Arrays}
 use Rattle.definitions.specs.declared.Part.{Part}
 use Rattle.definitions.specs.declared.FieldDesc.{FieldDesc}
-use Rattle.names.specs.Written.{nameText}
 use Rattle.names.specs.declared.WrittenName.{WrittenName}
 use Rattle.rows.specs.Enums.{enumType}
 use Rattle.bit_fields.specs.Kinds.{kindIn, endText}
 use Rattle.bit_fields.specs.declared.KindAt.{KindAt}
 use Rattle.bit_fields.specs.declared.End.{End}
-use Rattle.field_kinds.specs.KindOf.{isCondIn, scalarKind, memberKind, enumKind, kindAt}
+use Rattle.conditions.specs.IfNames.{condNames, isCondIn}
+use Rattle.conditions.proofs.Agree.{is-cond}
+use Rattle.field_kinds.specs.KindOf.{scalarKind, memberKind, enumKind, kindAt}
 
 -- the word `payload`, or the part
 name-picked : (m : Arrays) (s : Text) (of : Part) (end : End) (b : Bool)
@@ -43,8 +43,8 @@ enum-picked m s id type (enumIs w false false) = refl
 enum-picked m s id type noEnum = refl
 
 pub kinds-agree : (c : Setting) (d : FieldDesc)
-    → kindIn (c .arrays) (c .source) (text "payload") (kindAt (c .source) (c .scope) (c .fields) d) ≡ kindOf c d
-unfolding kindIn kindAt kindOf scalarKind isCondIn isCondFor
+    → kindIn (c .arrays) (c .source) (text "payload") (kindAt (c .source) (c .scope) (condNames (c .fields)) d) ≡ kindOf c d
+unfolding kindIn kindAt kindOf scalarKind isCondFor
 kinds-agree c (FieldDesc.Checksum of) = refl
 kinds-agree c (FieldDesc.Padding size) = refl
 kinds-agree c (FieldDesc.Size of width) = name-picked (c .arrays) (c .source) of End.Size (isPayloadId (c .source) of)
@@ -56,6 +56,9 @@ kinds-agree c (FieldDesc.FixedScalar width value) = refl
 kinds-agree c (FieldDesc.FixedEnum type tag) = refl
 kinds-agree c (FieldDesc.Reserved width) = refl
 kinds-agree c (FieldDesc.Array id width type modifier size) = refl
-kinds-agree c (FieldDesc.Scalar id width) = scalar-picked (c .arrays) (c .source) id (isCondIn (c .source) (c .fields) id)
+kinds-agree c (FieldDesc.Scalar id width) =
+    scalar-picked (c .arrays) (c .source) id (isCondIn (c .source) (condNames (c .fields)) id)
+    ∙ ap (λ (b : Bool). pick b (Kind.condition (part (c .source) id)) (Kind.number (named (c .arrays) (part (c .source) id) (text "_"))))
+    (is-cond (c .source) id (c .fields))
 kinds-agree c (FieldDesc.Flag id) = refl
 kinds-agree c (FieldDesc.Typedef id type) = enum-picked (c .arrays) (c .source) id type (enumOf (c .source) (c .scope) type)

@@ -1,14 +1,11 @@
--- What each condition, enum and kind of field gives.
+-- What each scalar, enum and kind of field gives.
 -- Assumes nothing.
 use Prim.Native.Nat.{ℕ}
 use mathlib.Core.Bool.{Bool, true, false, _||_}
 use mathlib.Core.List.{List}
-use mathlib.Core.Path.{_≡_, refl, sym, ap, _∙_}
+use mathlib.Core.Path.{_≡_, sym, ap, _∙_}
 use Rattle.definitions.specs.Bytes.{Text, pick}
-use Rattle.definitions.specs.Sizes.{Row, sameName, enumOf}
-use Rattle.definitions.specs.FieldParser.{isCondOf}
-use Rattle.definitions.specs.declared.Cond.{Cond}
-use Rattle.definitions.specs.declared.Field.{Field}
+use Rattle.definitions.specs.Sizes.{enumOf}
 use Rattle.definitions.specs.declared.FieldDesc.{FieldDesc}
 use Rattle.definitions.specs.declared.Part.{Part}
 use Rattle.definitions.specs.Tables.{rowsFrom}
@@ -18,17 +15,15 @@ use Rattle.rows.specs.Enums.{enumType}
 use Rattle.rows.specs.declared.EnumType.{EnumType}
 use Rattle.bit_fields.specs.declared.KindAt.{KindAt}
 use Rattle.bit_fields.specs.declared.End.{End}
-use Rattle.field_kinds.specs.KindOf.{isCondIn, memberKind, scalarKind, enumKind, kindAt}
+use Rattle.conditions.specs.IfNames.{isCondIn}
+use Rattle.field_kinds.specs.KindOf.{memberKind, scalarKind, enumKind, kindAt}
 
-pub cond-as : (s : Text) (id : Part) {d c : Cond} {b : Bool} → d ≡ c → b ≡ isCondOf s id c → b ≡ isCondOf s id d
-cond-as s id e h = h ∙ ap (isCondOf s id) (sym e)
-
-module _ (s : Text) (fs : List Field) (id : Part) {b : Bool} (e : b ≡ isCondIn s fs id) where
-  pub scalar-condition : b ≡ true → KindAt.Condition id ≡ scalarKind s fs id
+module _ (s : Text) (names : List Part) (id : Part) {b : Bool} (e : b ≡ isCondIn s names id) where
+  pub scalar-condition : b ≡ true → KindAt.Condition id ≡ scalarKind s names id
   unfolding scalarKind
   scalar-condition h = ap (λ (b : Bool). pick b (KindAt.Condition id) (memberKind id)) (sym h ∙ e)
 
-  pub scalar-member : b ≡ false → memberKind id ≡ scalarKind s fs id
+  pub scalar-member : b ≡ false → memberKind id ≡ scalarKind s names id
   unfolding scalarKind
   scalar-member h = ap (λ (b : Bool). pick b (KindAt.Condition id) (memberKind id)) (sym h ∙ e)
 
@@ -55,28 +50,28 @@ module _ (id type : Part) {e : EnumType} where
           ap (λ (b : Bool). pick b (KindAt.OpenEnum id type) (KindAt.ClosedEnum id type)) (sym k ∙ ap (λ (b : Bool). b || isComplete) (sym o)) ∙ picked
 
 -- the rows of any size tables; `d` is the field's kind
-module _ (s p : Text) (fs : List Field) (n : ℕ) {d : FieldDesc} where
-  pub kind-as : {c : FieldDesc} {r : KindAt} → d ≡ c → ((own par pay : List ℕ) → r ≡ kindAt s (rowsFrom s p own par pay 0 n) fs c)
-      → (own par pay : List ℕ) → r ≡ kindAt s (rowsFrom s p own par pay 0 n) fs d
-  kind-as e h own par pay = h own par pay ∙ ap (kindAt s (rowsFrom s p own par pay 0 n) fs) (sym e)
+module _ (s p : Text) (names : List Part) (n : ℕ) {d : FieldDesc} where
+  pub kind-as : {c : FieldDesc} {r : KindAt} → d ≡ c → ((own par pay : List ℕ) → r ≡ kindAt s (rowsFrom s p own par pay 0 n) names c)
+      → (own par pay : List ℕ) → r ≡ kindAt s (rowsFrom s p own par pay 0 n) names d
+  kind-as e h own par pay = h own par pay ∙ ap (kindAt s (rowsFrom s p own par pay 0 n) names) (sym e)
 
   pub kind-size : {of : Part} {width : ℕ} → d ≡ FieldDesc.Size of width → {name : WrittenName} → name ≡ fieldName s of
-      → (own par pay : List ℕ) → KindAt.Number name End.Size ≡ kindAt s (rowsFrom s p own par pay 0 n) fs d
+      → (own par pay : List ℕ) → KindAt.Number name End.Size ≡ kindAt s (rowsFrom s p own par pay 0 n) names d
   unfolding kindAt
   kind-size e h = kind-as e (λ own par pay. ap (λ (x : WrittenName). KindAt.Number x End.Size) h)
 
   pub kind-element-size : {of : Part} {width : ℕ} → d ≡ FieldDesc.ElementSize of width → {name : WrittenName} → name ≡ fieldName s of
-      → (own par pay : List ℕ) → KindAt.Number name End.ElementSize ≡ kindAt s (rowsFrom s p own par pay 0 n) fs d
+      → (own par pay : List ℕ) → KindAt.Number name End.ElementSize ≡ kindAt s (rowsFrom s p own par pay 0 n) names d
   unfolding kindAt
   kind-element-size e h = kind-as e (λ own par pay. ap (λ (x : WrittenName). KindAt.Number x End.ElementSize) h)
 
-  pub kind-scalar : {id : Part} {width : ℕ} → d ≡ FieldDesc.Scalar id width → {r : KindAt} → r ≡ scalarKind s fs id
-      → (own par pay : List ℕ) → r ≡ kindAt s (rowsFrom s p own par pay 0 n) fs d
+  pub kind-scalar : {id : Part} {width : ℕ} → d ≡ FieldDesc.Scalar id width → {r : KindAt} → r ≡ scalarKind s names id
+      → (own par pay : List ℕ) → r ≡ kindAt s (rowsFrom s p own par pay 0 n) names d
   unfolding kindAt
   kind-scalar e h = kind-as e (λ own par pay. h)
 
   pub kind-typedef : {id type : Part} → d ≡ FieldDesc.Typedef id type → {e : EnumType}
       → ((own par pay : List ℕ) → e ≡ enumType (enumOf s (rowsFrom s p own par pay 0 n) type)) → {r : KindAt} → r ≡ enumKind id type e
-      → (own par pay : List ℕ) → r ≡ kindAt s (rowsFrom s p own par pay 0 n) fs d
+      → (own par pay : List ℕ) → r ≡ kindAt s (rowsFrom s p own par pay 0 n) names d
   unfolding kindAt
   kind-typedef {id} {type} e h k = kind-as e (λ own par pay. k ∙ ap (enumKind id type) (h own par pay))

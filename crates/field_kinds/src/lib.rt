@@ -1,50 +1,24 @@
 // What the bits of a bit field are put into, or held against: the arms of the `match` in `parse_bit_field` of cxx.rs, from the field at its place
-// in the record. The fields of the declaration with the index i are the n that the table has from 64 i on; types are looked up among the
-// declarations before it.
+// in the record. The `if` names of the target's fields are the m of two tables (crate conditions); types are looked up among the i declarations
+// before it.
 
 use bit_fields::End;
 use bit_fields::KindAt;
-use definitions::Cond;
 use definitions::FieldDesc;
 use definitions::Part;
 use names::WrittenName;
 use rows::EnumType;
 ghost use mathlib.Core.Path.{_≡_};
 ghost use mathlib.Core.List.{List};
-ghost use Prim.Native.Nat.{ℕ, _*_};
-ghost use Rattle.definitions.specs.FieldParser.{isCondOf};
-ghost use Rattle.definitions.specs.Tables.{fieldsFrom, rowsFrom};
-ghost use Rattle.field_kinds.specs.KindOf.{isCondIn, enumKind, scalarKind, kindAt};
+ghost use Prim.Native.Nat.{ℕ};
+ghost use Rattle.definitions.specs.Tables.{rowsFrom};
+ghost use Rattle.conditions.specs.IfNames.{namesFrom};
+ghost use Rattle.field_kinds.specs.KindOf.{enumKind, scalarKind, kindAt};
 
-fn is_cond_of(rec: &[u8], id: Part, cond: Cond) -> bool
-    ensures { λ r. ⌜ r ≡ isCondOf (now (rec .entry)) id cond ⌝ }
+fn scalar_kind(rec: &[u8], starts: &[usize], ends: &[usize], m: usize, id: Part) -> KindAt
+    ensures { λ r. ⌜ r ≡ scalarKind (now (rec .entry)) (namesFrom (now (starts .entry)) (now (ends .entry)) 0 m) id ⌝ }
 {
-    match cond {
-        Cond::None => false,
-        Cond::Some { id: name, value: _ } => names::same_name(rec, name, id),
-    }
-}
-
-// `is_cond_for`: the `if` name of some field of the declaration.
-fn is_cond_for(rec: &[u8], fields: &[usize], i: usize, n: usize, id: Part) -> bool
-    ensures { λ r. ⌜ r ≡ isCondIn (now (rec .entry)) (fieldsFrom (now (rec .entry)) (now (fields .entry)) (i * 64) n) id ⌝ }
-{
-    let mut k = 0;
-    while k < n {
-        let f = references::field_in(rec, fields, i, k);
-        let cond = f.cond;
-        if is_cond_of(rec, id, cond) {
-            return true;
-        }
-        k += 1;
-    }
-    false
-}
-
-fn scalar_kind(rec: &[u8], fields: &[usize], i: usize, n: usize, id: Part) -> KindAt
-    ensures { λ r. ⌜ r ≡ scalarKind (now (rec .entry)) (fieldsFrom (now (rec .entry)) (now (fields .entry)) (i * 64) n) id ⌝ }
-{
-    if is_cond_for(rec, fields, i, n, id) {
+    if conditions::is_cond_for(rec, starts, ends, m, id) {
         return KindAt::Condition { id };
     }
     KindAt::Number {
@@ -81,12 +55,13 @@ fn enum_kind(id: Part, type_id: Part, e: EnumType) -> KindAt
 pub fn kind_of(
     rec: &[u8],
     places: &[usize],
-    fields: &[usize],
+    starts: &[usize],
+    ends: &[usize],
+    m: usize,
     i: usize,
-    n: usize,
     desc: FieldDesc,
 ) -> KindAt
-    ensures { λ r. ⌜ ((own parents payloads : List ℕ) → r ≡ kindAt (now (rec .entry)) (rowsFrom (now (rec .entry)) (now (places .entry)) own parents payloads 0 i) (fieldsFrom (now (rec .entry)) (now (fields .entry)) (i * 64) n) desc) ⌝ }
+    ensures { λ r. ⌜ ((own parents payloads : List ℕ) → r ≡ kindAt (now (rec .entry)) (rowsFrom (now (rec .entry)) (now (places .entry)) own parents payloads 0 i) (namesFrom (now (starts .entry)) (now (ends .entry)) 0 m) desc) ⌝ }
 {
     match desc {
         FieldDesc::Checksum { field_id: _ } => KindAt::Reserved,
@@ -115,7 +90,7 @@ pub fn kind_of(
             size_modifier: _,
             size: _,
         } => KindAt::Reserved,
-        FieldDesc::Scalar { id, width: _ } => scalar_kind(rec, fields, i, n, id),
+        FieldDesc::Scalar { id, width: _ } => scalar_kind(rec, starts, ends, m, id),
         FieldDesc::Flag { id } => KindAt::Condition { id },
         FieldDesc::Typedef { id, type_id } => enum_kind(
             id,

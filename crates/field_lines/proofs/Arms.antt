@@ -1,7 +1,6 @@
 -- The bytes of a block, arm by arm.
 -- Assumes nothing.
-use mathlib.Core.List.{List, []}
-use mathlib.Core.Path.{_≡_, refl, sym, ap}
+use mathlib.Core.Path.{_≡_, refl, sym}
 use Prim.Native.Nat.{ℕ}
 use Rattle.definitions.specs.Bytes.{Text, text, part}
 use Rattle.definitions.specs.Blocks.{named, Array, Block}
@@ -20,9 +19,6 @@ use Rattle.elements.specs.declared.Element.{Element}
 use Rattle.arrays.specs.Shapes.{ProductFits, arrayOf, arrayText}
 use Rattle.emits.specs.declared.BlockAt.{BlockAt}
 use Rattle.emits.specs.BlockOf.{typeText, arrayBlock, blockOf, BlockFits}
-
-pub no-type : (s : Text) (t : MaybePart) → t ≡ MaybePart.None → [] ≡ typeText s t
-no-type s t e = ap (typeText s) (sym e)
 
 pub some-type : (s : Text) (t : MaybePart) (name : Part) {x : Text} → t ≡ MaybePart.Some name → x ≡ part s name → x ≡ typeText s t
 some-type s t name e h = rw e h

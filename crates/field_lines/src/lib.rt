@@ -1,6 +1,5 @@
 // The bytes of the block that a field which is no bit field appends: `BlockAt` of emits, with its names as parts of the record. Document 01,
-// 'Lowering'; the arms are the calls that `parse_payload_field_lite`, `parse_typedef_field`, `parse_optional_field` and the array parsers of cxx.rs
-// come to.
+// 'Lowering': the arms of `parse` of cxx.rs for such fields, and those of `parse_optional_field`.
 use definitions::ArraySize;
 use definitions::Arrays;
 use definitions::ElementSize;

@@ -7,7 +7,7 @@ use mathlib.Core.Path.{_≡_, refl, sym, _∙_}
 use native.Mathlib.Numerals.{add-one}
 use native.Mathlib.Omega.{arith}
 use borrow.Author.Tests.{lt-ltb, le-ltb, le-leb, lt-leb, eq-eqb, ne-eqb, not-true, not-false, leb-true}
-use lib.Dec.{leb}
+use lib.Dec.{leb, eqb}
 use lib.ListN.{drop, length, getD, drop-of-length-le}
 use lib.Seq.{drop-cons}
 use Rattle.definitions.specs.Bytes.{isDigit, isWord}
@@ -25,6 +25,13 @@ module _ (b : ℕ) where
   unfolding isDigit
   digit-from h = rw (le-leb 48 b h)
 
+  pub word-small : 97 ≤ b → leb b 122 ≡ isWord b
+  unfolding isWord isDigit
+  word-small l =
+      sym
+      (rw (le-leb 48 b (omega arith), lt-leb b 57 (omega arith), le-leb 65 b (omega arith), lt-leb b 90 (omega arith), le-leb 97 b l, ne-eqb b 95 (omega arith))
+      (or-false (leb b 122)))
+
   module _ {r : Bool} (q : r ≡ isDigit b) where
     pub word-digit : r ≡ true → true ≡ isWord b
     unfolding isWord
@@ -39,17 +46,9 @@ module _ (b : ℕ) where
       unfolding isWord
       word-capital l h = rw (sym q ∙ z, le-leb 65 b l, le-leb b 90 h)
 
-      pub word-underscore : 90 < b → b ≡ 95 → true ≡ isWord b
+      pub word-between : 90 < b → b < 97 → eqb b 95 ≡ isWord b
       unfolding isWord
-      word-underscore l h = rw (sym q ∙ z, le-leb 65 b (omega arith), lt-leb b 90 l, lt-leb 97 b (omega arith), eq-eqb b 95 h)
-
-      pub word-between : 90 < b → (b ≡ 95 → ⊥) → b < 97 → false ≡ isWord b
-      unfolding isWord
-      word-between l n h = rw (sym q ∙ z, le-leb 65 b (omega arith), lt-leb b 90 l, lt-leb 97 b h, ne-eqb b 95 n)
-
-      pub word-small : 97 ≤ b → leb b 122 ≡ isWord b
-      unfolding isWord
-      word-small l = sym (rw (sym q ∙ z, le-leb 65 b (omega arith), lt-leb b 90 (omega arith), le-leb 97 b l, ne-eqb b 95 (omega arith)) (or-false (leb b 122)))
+      word-between l h = rw (sym q ∙ z, le-leb 65 b (omega arith), lt-leb b 90 l, lt-leb 97 b h)
 
   -- a digit is no less than `0`
   pub least : {r : Bool} → r ≡ isDigit b → not r ≡ false → {d : ℕ} → d ≡ b → 48 ≤ d
@@ -120,6 +119,6 @@ module _ (s : List ℕ) (p : ℕ) (w : p < length s) {r : Bool} (q : r ≡ isDig
   unfolding numberOf
   number-digits d h k = rw (k, add-one p, drop-cons s p 0 w, sym q ∙ not-false r h, numberOf, add-one p)
 
-pub ruleset bytes = (digit-below, digit-from, word-digit, word-below, word-capital, word-underscore, word-between, word-small)
+pub ruleset bytes = (digit-below, digit-from, word-digit, word-below, word-capital, word-between, word-small)
 
 pub ruleset numbers = (digits-past, digits-end, digits-other, digits-zero, digits-ten, digits-over, number-past, number-other)

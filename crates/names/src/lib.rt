@@ -48,10 +48,13 @@ fn is_digit(b: u8) -> bool
     b <= 57
 }
 
-// A letter, a digit or `_`.
+// A letter, a digit or `_`; most are small letters.
 fn is_word(b: u8) -> bool
     ensures { λ r. ⌜ r ≡ isWord b ⌝ }
 {
+    if 97 <= b {
+        return b <= 122;
+    }
     if is_digit(b) {
         return true;
     }
@@ -61,13 +64,7 @@ fn is_word(b: u8) -> bool
     if b <= 90 {
         return true;
     }
-    if b == 95 {
-        return true;
-    }
-    if b < 97 {
-        return false;
-    }
-    b <= 122
+    b == 95
 }
 
 // A number at a place, with its newline: decimal, no leading zero, below 2 ^ 64.

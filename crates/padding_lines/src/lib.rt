@@ -1,4 +1,4 @@
-// The block of an array with its padding: what `parse_array_field` of cxx.rs puts around an array of padded size. Document 01, 'Lowering'; the texts
+// The block of an array with its padding: what `parse` of cxx.rs appends around an array that has a padded size. Document 01, 'Lowering'; the texts
 // are those of definitions' Blocks.
 use definitions::ArraySize;
 use definitions::Arrays;

@@ -1,11 +1,10 @@
 -- `parse` of a bit field: it is ready, and what it comes to is the stream's step.
 -- Assumes nothing.
 use mathlib.Core.Bool.{Bool, true, false}
-use mathlib.Core.List.{List, _∷_}
+use mathlib.Core.List.{List}
 use mathlib.Core.Path.{_≡_, refl, sym, ap, _∙_, subst}
-use Prim.Native.Nat.{ℕ, _+_, _≤_, _<_, _^_}
+use Prim.Native.Nat.{ℕ, _+_, _<_, _^_}
 use native.Mathlib.Omega.{arith}
-use lib.ListN.{length}
 use Rattle.definitions.specs.Bytes.{Text, text}
 use Rattle.definitions.specs.Sizes.{Row, Annotated, annotateField}
 use Rattle.definitions.specs.Refusals.{staticBits, staticSum}
@@ -14,13 +13,12 @@ use Rattle.definitions.specs.FieldParser.{Setting, staticWidth, kindOf, isBit}
 use Rattle.definitions.specs.declared.Arrays.{Arrays}
 use Rattle.definitions.specs.declared.EndiannessValue.{EndiannessValue}
 use Rattle.definitions.specs.declared.Field.{Field}
-use Rattle.definitions.specs.declared.FieldDesc.{FieldDesc}
-use Rattle.definitions.specs.declared.Refusal.{Refusal}
+use Rattle.definitions.specs.declared.Part.{Part}
 use Rattle.definitions.specs.declared.Size.{Size}
 use Rattle.definitions.specs.declared.Verdict.{Verdict}
 use Rattle.definitions.specs.Tables.{rowsFrom}
 use Rattle.text.proofs.Puts.{like}
-use Rattle.stream.specs.Stream.{Result, ahead, runBits, widthOf, stream}
+use Rattle.stream.specs.Stream.{ahead, runBits, widthOf, stream}
 use Rattle.stream.specs.Stream as flow
 use Rattle.bit_fields.specs.declared.KindAt.{KindAt}
 use Rattle.bit_fields.specs.Kinds.{kindIn}
@@ -30,12 +28,14 @@ use Rattle.chunks.specs.declared.Step.{Step}
 use Rattle.chunks.specs.Steps.{Long, Advance, bitAdvance, Ready, BitParsed}
 use Rattle.chunks.proofs.Advances.{onVerdict, advance, bit-advances}
 use Rattle.chunks.proofs.Within.{Within, within-bit, within-ready, run-below}
+use Rattle.conditions.specs.IfNames.{condNames}
 use Rattle.field_kinds.specs.KindOf.{kindAt}
 use Rattle.field_kinds.proofs.Agree.{kinds-agree}
-use Rattle.emits.specs.Target.{rowsOf, fieldsOf, settingAt, restAt, fieldIn, annotatedAt, Fine}
+use Rattle.emits.specs.Target.{rowsOf, fieldsOf, settingAt, restAt, fieldIn, annotatedAt}
 use Rattle.emits.proofs.Rests.{rest-step}
-use Rattle.parser.specs.Driver.{seen, laterBits, Going, Turn, from, Parsed}
-use Rattle.parser.proofs.Later.{later-below, advance-later}
+use Rattle.runs.specs.Counted.{laterBits}
+use Rattle.runs.proofs.Later.{later-below, advance-later}
+use Rattle.parser.specs.Driver.{seen, Going, Turn, from, Parsed}
 
 same-bits : (z : Size) → staticWidth z ≡ staticBits z
 same-bits (Size.Static bits) = refl
@@ -121,10 +121,11 @@ module _ (s places own parents payloads fields : List ℕ) (i n : ℕ) where
                 run-below c (rest (k + 1)),
               ))
 
-          module _ {kind : KindAt} (ek : (own parents payloads : List ℕ) → kind ≡ kindAt s (rowsFrom s places own parents payloads 0 i) all (f .desc)) where
+          module _ {names : List Part} (en : names ≡ condNames all) {kind : KindAt}
+              (ek : (own parents payloads : List ℕ) → kind ≡ kindAt s (rowsFrom s places own parents payloads 0 i) names (f .desc)) where
             kind-is : kindIn m s (text "payload") kind ≡ kindOf c (here k .field .desc)
             kind-is =
-                ap (kindIn m s (text "payload")) (ek own parents payloads)
+                ap (kindIn m s (text "payload")) (ek own parents payloads ∙ ap (λ (names : List Part). kindAt s rows names (f .desc)) en)
                 ∙ kinds-agree c (f .desc)
                 ∙ ap (λ (x : Field). kindOf c (x .desc)) ef
 

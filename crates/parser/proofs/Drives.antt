@@ -1,13 +1,13 @@
 -- The driver over the fields: `new`, a turn for each field, and `done`. What is left of the stream, behind what is written, is the definitions' lowering.
 -- Assumes nothing.
-use mathlib.Core.List.{List, [], _∷_, _++_, append-assoc, append-nil}
+use mathlib.Core.List.{List, [], _++_, append-assoc, append-nil}
 use mathlib.Core.Path.{_≡_, refl, sym, ap, _∙_, subst}
 use Prim.Native.Nat.{ℕ, _+_, _≤_, _<_, _^_}
 use native.Mathlib.Omega.{arith}
 use lib.ListN.{length}
 use Rattle.definitions.specs.Bytes.{Text, text}
 use Rattle.definitions.specs.Sizes.{Annotated}
-use Rattle.definitions.specs.Blocks.{Bit, widths}
+use Rattle.definitions.specs.Blocks.{widths}
 use Rattle.definitions.specs.FieldParser.{Setting, lowerFields}
 use Rattle.definitions.specs.declared.Arrays.{Arrays}
 use Rattle.definitions.specs.declared.EndiannessValue.{EndiannessValue}
@@ -21,13 +21,13 @@ use Rattle.stream.proofs.Same.{streamed}
 use Rattle.chunks.specs.declared.State.{State}
 use Rattle.chunks.specs.declared.Checked.{Checked}
 use Rattle.chunks.specs.declared.Step.{Step}
-use Rattle.chunks.specs.Steps.{Long, newState, codeChecked}
+use Rattle.chunks.specs.Steps.{newState, codeChecked}
 use Rattle.chunks.proofs.Advances.{onVerdict, new-view, new-long, code-flushes}
 use Rattle.emits.specs.Target.{settingAt, restAt, Fine}
 use Rattle.emits.proofs.Rests.{rest-end}
 use Rattle.runs.proofs.Rests.{sum-fine}
 use Rattle.parser.specs.declared.Lowered.{Lowered}
-use Rattle.parser.specs.Driver.{seen, Going, from, Parsed, doneBy, Lowers}
+use Rattle.parser.specs.Driver.{seen, Going, Parsed, doneBy, Lowers}
 use Rattle.parser.proofs.Others.{nothing-ahead}
 
 ahead-ahead : (s t : Text) (r : Result) → ahead s (ahead t r) ≡ ahead (s ++ t) r

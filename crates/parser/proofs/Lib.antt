@@ -1,4 +1,3 @@
-pub mod Later
 pub mod BitFields
 pub mod Others
 pub mod Drives

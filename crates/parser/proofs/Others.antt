@@ -1,18 +1,16 @@
 -- `parse` of a field that is no bit field: what it emits, behind what `check_code` comes to.
 -- Assumes nothing.
 use mathlib.Core.Bool.{false}
-use mathlib.Core.List.{List, [], _∷_}
+use mathlib.Core.List.{List, []}
 use mathlib.Core.Path.{_≡_, refl, sym, ap, _∙_, subst}
-use Prim.Native.Nat.{ℕ, _+_, _≤_, _<_, _^_}
+use Prim.Native.Nat.{ℕ, _+_, _<_, _^_}
 use native.Mathlib.Omega.{arith}
 use lib.ListN.{length}
 use Rattle.definitions.specs.Bytes.{Text, text}
 use Rattle.definitions.specs.Sizes.{Annotated}
-use Rattle.definitions.specs.Refusals.{staticSum}
 use Rattle.definitions.specs.FieldParser.{Setting, Emit, sizeBacking, isBit}
 use Rattle.definitions.specs.declared.Arrays.{Arrays}
 use Rattle.definitions.specs.declared.EndiannessValue.{EndiannessValue}
-use Rattle.definitions.specs.declared.Field.{Field}
 use Rattle.definitions.specs.declared.Part.{Part}
 use Rattle.definitions.specs.declared.Refusal.{Refusal}
 use Rattle.definitions.specs.declared.Verdict.{Verdict}
@@ -23,7 +21,6 @@ use Rattle.stream.specs.Stream as flow
 use Rattle.stream.proofs.Steps.{stream-no}
 use Rattle.chunks.specs.declared.State.{State}
 use Rattle.chunks.specs.declared.Checked.{Checked}
-use Rattle.chunks.specs.declared.Step.{Step}
 use Rattle.chunks.specs.Steps.{Long, codeChecked}
 use Rattle.chunks.proofs.Advances.{onVerdict, code-flushes, code-calms, code-long}
 use Rattle.chunks.proofs.Within.{Within, within-calm}

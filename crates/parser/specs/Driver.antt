@@ -1,14 +1,13 @@
 -- What the driver's functions come to, in the words of the stream (crate stream): the fields of the target by number, the code's state as the stream's.
 -- Assumes nothing.
-use mathlib.Core.Bool.{Bool, true, false}
 use mathlib.Core.List.{List}
 use mathlib.Core.Path.{_≡_}
-use Prim.Native.Nat.{ℕ, _+_, _%_, _≤_, _<_, _^_}
-use lib.Dec.{eqb}
+use Prim.Native.Nat.{ℕ, _+_, _*_, _≤_, _<_, _^_}
 use Rattle.definitions.specs.Bytes.{Text, text}
 use Rattle.definitions.specs.Refusals.{staticSum}
 use Rattle.definitions.specs.Blocks.{widths}
 use Rattle.definitions.specs.FieldParser.{Emit, parseUnchecked}
+use Rattle.definitions.specs.Tables.{fieldsFrom}
 use Rattle.definitions.specs.declared.Arrays.{Arrays}
 use Rattle.definitions.specs.declared.EndiannessValue.{EndiannessValue}
 use Rattle.definitions.specs.declared.Refusal.{Refusal}
@@ -19,6 +18,7 @@ use Rattle.stream.specs.Stream as flow
 use Rattle.chunks.specs.Steps.{view, Long}
 use Rattle.chunks.specs.declared.State.{State}
 use Rattle.chunks.specs.declared.Step.{Step}
+use Rattle.conditions.specs.IfNames.{condNames, namesFrom}
 use Rattle.emits.specs.Target.{settingAt, restAt, annotatedAt, Fine}
 use Rattle.parser.specs.declared.Lowered.{Lowered}
 
@@ -26,9 +26,9 @@ use Rattle.parser.specs.declared.Lowered.{Lowered}
 abbrev pub seen : Arrays → Text → State → flow.State
 seen m s t = view m s (text "payload") t
 
--- the bits behind a bit field that its check counts: they are looked at only where the first chunk of a run closes
-unfoldable pub laterBits : Bool → ℕ → ℕ → ℕ
-laterBits pending sum run = elim pending [ true ↦ 0 | false ↦ elim (eqb (sum % 8) 0) [ true ↦ run | false ↦ 0 ] ]
+-- the tables have the `if` names of the target's fields
+abbrev pub Named : Text → List ℕ → ℕ → ℕ → List ℕ → List ℕ → ℕ → Type 0
+Named s fields i n starts ends conds = namesFrom starts ends 0 conds ≡ condNames (fieldsFrom s fields (i * 64) n)
 
 module _ (s places own parents payloads fields : List ℕ) (i n : ℕ) where
   -- before field k: the chunk has at most as many fields as were met, its bits and those to come fit, and its shift is the sum of its widths

@@ -1,6 +1,7 @@
 // The driver of `FieldParser` (cxx.rs): `new`, `parse` for each field of the target in order, and `done`. A run's check is written before its first
 // chunk, with the total found by looking ahead over the widths (crate runs); that the lines are those of cxx.rs is the law of crate stream.
-// The target has the index i: its fields are the n that the table has from 64 i on, types are looked up in the i rows before.
+// The target has the index i: its fields are the n that the table has from 64 i on, types are looked up in the i rows before. The `if` names of its
+// fields are gathered once (crate conditions).
 use chunks::State;
 use chunks::Step;
 use definitions::Arrays;
@@ -12,12 +13,10 @@ ghost use mathlib.Core.Path.{_≡_};
 ghost use mathlib.Core.Bool.{true, false};
 ghost use Prim.Native.Nat.{_+_, _≤_, _<_};
 ghost use Rattle.definitions.specs.FieldParser.{isBit, lowerFields};
-ghost use Rattle.definitions.specs.declared.Arrays.{Arrays};
-ghost use Rattle.definitions.specs.declared.EndiannessValue.{EndiannessValue};
-ghost use Rattle.stream.specs.Stream.{runBits, rendered};
+ghost use Rattle.stream.specs.Stream.{rendered};
 ghost use Rattle.chunks.specs.Steps.{codeChecked};
 ghost use Rattle.emits.specs.Target.{settingAt, restAt, fieldIn, Fine};
-ghost use Rattle.parser.specs.Driver.{laterBits, Turn, Emitted, Parsed, doneBy, Lowers};
+ghost use Rattle.parser.specs.Driver.{Named, Turn, Emitted, Parsed, doneBy, Lowers};
 
 // The answer, and the place behind the lines.
 pub struct Lowered {
@@ -26,32 +25,6 @@ pub struct Lowered {
 }
 
 // ---- `parse`, of a bit field
-
-// The bits behind field k that its check counts; the chunk comes to `sum` bits.
-fn later_bits(
-    rec: &[u8],
-    places: &[usize],
-    own: &[u64],
-    parents: &[u64],
-    payloads: &[u64],
-    fields: &[usize],
-    i: usize,
-    n: usize,
-    k: usize,
-    pending: bool,
-    sum: u64,
-) -> u64
-    requires { ⌜ (k < n) × Fine (now rec) (now places) (now own) (now parents) (now payloads) (now fields) i n ⌝ }
-    ensures { λ r. ⌜ ((order : EndiannessValue) (m : Arrays) → r ≡ laterBits pending sum (runBits (settingAt (now (rec .entry)) (now (places .entry)) (now (own .entry)) (now (parents .entry)) (now (payloads .entry)) (now (fields .entry)) i n order m) (restAt (now (rec .entry)) (now (places .entry)) (now (own .entry)) (now (parents .entry)) (now (payloads .entry)) (now (fields .entry)) i n (k + 1)))) ⌝ }
-{
-    if pending {
-        return 0;
-    }
-    if sum % 8 != 0 {
-        return 0;
-    }
-    runs::run_bits(rec, places, own, parents, payloads, fields, i, n, k + 1)
-}
 
 fn parse_bit_field<'a>(
     rec: &'a [u8],
@@ -66,6 +39,9 @@ fn parse_bit_field<'a>(
     fields: &[usize],
     i: usize,
     n: usize,
+    starts: &[usize],
+    ends: &[usize],
+    conds: usize,
     k: usize,
     t: State,
     f: Field,
@@ -73,15 +49,16 @@ fn parse_bit_field<'a>(
     requires { ⌜ Turn (now rec) (now places) (now own) (now parents) (now payloads) (now fields) i n m k t ⌝ }
     requires { ⌜ f ≡ fieldIn (now rec) (now places) (now own) (now parents) (now payloads) (now fields) i n k ⌝ }
     requires { ⌜ isBit (settingAt (now rec) (now places) (now own) (now parents) (now payloads) (now fields) i n order m) f ≡ true ⌝ }
+    requires { ⌜ Named (now rec) (now fields) i n (now starts) (now ends) conds ⌝ }
     ensures { λ r. ⌜ Parsed (now (rec .entry)) (now (places .entry)) (now (own .entry)) (now (parents .entry)) (now (payloads .entry)) (now (fields .entry)) i n order m k t (now (out .entry)) at r (now (out .exit)) ⌝ }
 {
     let desc = f.desc;
     let shift = t.shift;
     let pending = t.pending;
-    let kind = field_kinds::kind_of(rec, places, fields, i, n, desc);
+    let kind = field_kinds::kind_of(rec, places, starts, ends, conds, i, desc);
     let size = annotate::field_size(rec, places, own, parents, payloads, fields, i, n, f);
     let width = runs::static_width(size);
-    let later = later_bits(
+    let later = runs::later_bits(
         rec,
         places,
         own,
@@ -219,10 +196,14 @@ fn parse<'a>(
     fields: &[usize],
     i: usize,
     n: usize,
+    starts: &[usize],
+    ends: &[usize],
+    conds: usize,
     k: usize,
     t: State,
 ) -> Step
     requires { ⌜ Turn (now rec) (now places) (now own) (now parents) (now payloads) (now fields) i n m k t ⌝ }
+    requires { ⌜ Named (now rec) (now fields) i n (now starts) (now ends) conds ⌝ }
     ensures { λ r. ⌜ Parsed (now (rec .entry)) (now (places .entry)) (now (own .entry)) (now (parents .entry)) (now (payloads .entry)) (now (fields .entry)) i n order m k t (now (out .entry)) at r (now (out .exit)) ⌝ }
 {
     let f = references::field_in(rec, fields, i, k);
@@ -240,6 +221,9 @@ fn parse<'a>(
             fields,
             i,
             n,
+            starts,
+            ends,
+            conds,
             k,
             t,
             f,
@@ -281,9 +265,9 @@ fn done(t: State, at: usize, p: usize) -> Lowered
     }
 }
 
-// The lines of the target behind refusals 1 to 9. On a refusal, what the fields before wrote stays in the buffer.
-pub fn lower_target(
-    rec: &[u8],
+// `parse` for each field, and `done`.
+fn parse_fields<'a>(
+    rec: &'a [u8],
     out: &mut [u8],
     at: usize,
     order: EndiannessValue,
@@ -295,8 +279,12 @@ pub fn lower_target(
     fields: &[usize],
     i: usize,
     n: usize,
+    starts: &[usize],
+    ends: &[usize],
+    conds: usize,
 ) -> Lowered
     requires { ⌜ (n ≤ 64) × Fine (now rec) (now places) (now own) (now parents) (now payloads) (now fields) i n ⌝ }
+    requires { ⌜ Named (now rec) (now fields) i n (now starts) (now ends) conds ⌝ }
     ensures { λ r. ⌜ Lowers (rendered (lowerFields (settingAt (now (rec .entry)) (now (places .entry)) (now (own .entry)) (now (parents .entry)) (now (payloads .entry)) (now (fields .entry)) i n order m) (restAt (now (rec .entry)) (now (places .entry)) (now (own .entry)) (now (parents .entry)) (now (payloads .entry)) (now (fields .entry)) i n 0))) (now (out .entry)) at r (now (out .exit)) ⌝ }
 {
     let mut t = chunks::new();
@@ -316,6 +304,9 @@ pub fn lower_target(
             fields,
             i,
             n,
+            starts,
+            ends,
+            conds,
             k,
             t,
         );
@@ -336,4 +327,44 @@ pub fn lower_target(
         }
     }
     done(t, at, p)
+}
+
+// The lines of the target behind refusals 1 to 9. On a refusal, what the fields before wrote stays in the buffer.
+pub fn lower_target(
+    rec: &[u8],
+    out: &mut [u8],
+    at: usize,
+    order: EndiannessValue,
+    m: Arrays,
+    places: &[usize],
+    own: &[u64],
+    parents: &[u64],
+    payloads: &[u64],
+    fields: &[usize],
+    i: usize,
+    n: usize,
+) -> Lowered
+    requires { ⌜ (n ≤ 64) × Fine (now rec) (now places) (now own) (now parents) (now payloads) (now fields) i n ⌝ }
+    ensures { λ r. ⌜ Lowers (rendered (lowerFields (settingAt (now (rec .entry)) (now (places .entry)) (now (own .entry)) (now (parents .entry)) (now (payloads .entry)) (now (fields .entry)) i n order m) (restAt (now (rec .entry)) (now (places .entry)) (now (own .entry)) (now (parents .entry)) (now (payloads .entry)) (now (fields .entry)) i n 0))) (now (out .entry)) at r (now (out .exit)) ⌝ }
+{
+    let mut starts = [0usize; 64];
+    let mut ends = [0usize; 64];
+    let conds = conditions::conditions(rec, fields, i, n, &mut starts, &mut ends);
+    parse_fields(
+        rec,
+        out,
+        at,
+        order,
+        m,
+        places,
+        own,
+        parents,
+        payloads,
+        fields,
+        i,
+        n,
+        &starts,
+        &ends,
+        conds,
+    )
 }

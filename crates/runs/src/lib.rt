@@ -5,12 +5,13 @@ use definitions::Field;
 use definitions::Size;
 ghost use mathlib.Core.Path.{_≡_};
 ghost use mathlib.Core.List.{List};
-ghost use Prim.Native.Nat.{ℕ};
+ghost use Prim.Native.Nat.{ℕ, _+_, _<_};
 ghost use Rattle.definitions.specs.FieldParser.{staticWidth, isBit};
 ghost use Rattle.definitions.specs.declared.Arrays.{Arrays};
 ghost use Rattle.definitions.specs.declared.EndiannessValue.{EndiannessValue};
 ghost use Rattle.stream.specs.Stream.{runBits};
 ghost use Rattle.emits.specs.Target.{settingAt, restAt, Fine};
+ghost use Rattle.runs.specs.Counted.{laterBits};
 
 // A bit field without a condition. No size is looked at, so any size tables will do.
 pub fn is_bit(rec: &[u8], places: &[usize], i: usize, f: Field) -> bool
@@ -36,7 +37,7 @@ pub fn static_width(size: Size) -> u64
 }
 
 // The bits of the bit fields from number k on, up to the next other field.
-pub fn run_bits(
+fn run_bits(
     rec: &[u8],
     places: &[usize],
     own: &[u64],
@@ -63,4 +64,30 @@ pub fn run_bits(
         }
     }
     sum
+}
+
+// The bits behind field k that its check counts; the chunk comes to `sum` bits.
+pub fn later_bits(
+    rec: &[u8],
+    places: &[usize],
+    own: &[u64],
+    parents: &[u64],
+    payloads: &[u64],
+    fields: &[usize],
+    i: usize,
+    n: usize,
+    k: usize,
+    pending: bool,
+    sum: u64,
+) -> u64
+    requires { ⌜ (k < n) × Fine (now rec) (now places) (now own) (now parents) (now payloads) (now fields) i n ⌝ }
+    ensures { λ r. ⌜ ((order : EndiannessValue) (m : Arrays) → r ≡ laterBits pending sum (runBits (settingAt (now (rec .entry)) (now (places .entry)) (now (own .entry)) (now (parents .entry)) (now (payloads .entry)) (now (fields .entry)) i n order m) (restAt (now (rec .entry)) (now (places .entry)) (now (own .entry)) (now (parents .entry)) (now (payloads .entry)) (now (fields .entry)) i n (k + 1)))) ⌝ }
+{
+    if pending {
+        return 0;
+    }
+    if sum % 8 != 0 {
+        return 0;
+    }
+    run_bits(rec, places, own, parents, payloads, fields, i, n, k + 1)
 }

@@ -2,8 +2,6 @@ use Rattle.field_kinds.proofs.Arms.{no-enum, open-enum, complete-enum, 
 use borrow.Author.Needs.{needs}
 use Rattle.field_kinds.proofs.enum_kind.Statement.{statement}
 use Rattle.field_kinds.proofs.enum_kind.Tie as tie
-use Rattle.field_kinds.proofs.enum_kind.Reads as reads
-use Rattle.field_kinds.proofs.enum_kind.Lts as lts
 
 enum-known-e : tie.Need-enum-known-e
 enum-known-e c = search needs

@@ -3,12 +3,6 @@ use Rattle.field_kinds.proofs.Arms.{kind-as, kind-size, kind-element-si
 use borrow.Author.Needs.{needs}
 use Rattle.field_kinds.proofs.kind_of.Statement.{statement}
 use Rattle.field_kinds.proofs.kind_of.Tie as tie
-use Rattle.field_kinds.proofs.kind_of.Reads as reads
-use Rattle.field_kinds.proofs.kind_of.Lts as lts
-use Rattle.field_kinds.proofs.enum_kind.Reads as enum-kind-reads
-use Rattle.field_kinds.proofs.scalar_kind.Reads as scalar-kind-reads
-use Rattle.names.proofs.field_name.Reads as field-name-reads
-use Rattle.rows.proofs.enum_of.Reads as enum-of-reads
 
 enum-told : tie.Need-enum-told
 enum-told c = search needs

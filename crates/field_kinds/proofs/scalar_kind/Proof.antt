@@ -2,9 +2,6 @@ use Rattle.field_kinds.proofs.Arms.{scalar-condition, scalar-member}
 use borrow.Author.Needs.{needs}
 use Rattle.field_kinds.proofs.scalar_kind.Statement.{statement}
 use Rattle.field_kinds.proofs.scalar_kind.Tie as tie
-use Rattle.field_kinds.proofs.scalar_kind.Reads as reads
-use Rattle.field_kinds.proofs.scalar_kind.Lts as lts
-use Rattle.field_kinds.proofs.is_cond_for.Reads as is-cond-for-reads
 
 is-cond-for-requires : tie.Need-is-cond-for-requires
 is-cond-for-requires c κs = search needs

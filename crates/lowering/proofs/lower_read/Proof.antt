@@ -47,13 +47,22 @@ write-lines-requires c κs =
     (c .before .before .before .before .before .before .get .ensures)
 
 returns : tie.Need-returns
-returns c = search (check-refused, needs)
+returns c =
+    check-refused _ _ _ _ _ _ _ _ _
+    (c .before .before .before .before .before .before .before .check-sizes .ensures)
+    (c .before .before .why .given .1)
+    (c .turned-back .ensures)
 
 same-length : tie.Need-same-length
 same-length c = search needs
 
 returns-2 : tie.Need-returns-2
-returns-2 c = search (target-answers, needs)
+returns-2 c =
+    target-answers _ _ _ _ _ _ _ _ _
+    (c .before .before .before .before .before .before .before .before .before .before .before .before .before .before .before .before .before .check-sizes .ensures)
+    (c .before .before .before .before .before .before .before .before .before .before .before .before .i .given .1)
+    (c .before .before .before .before .before .before .before .before .before .get .ensures)
+    (c .before .before .write-lines .ensures)
 
 pub lower-read-spec : {M : Type 1} → statement M
 lower-read-spec =

@@ -24,19 +24,33 @@ turned-back-requires-2 : tie.Need-turned-back-requires-2
 turned-back-requires-2 c κs = search needs
 
 returns : tie.Need-returns
-returns c = search (pass-no-room, needs)
+returns c =
+    pass-no-room _ _ _ _ _ _
+    (c .before .before .before .before .before .before .lower-target .ensures)
+    (c .before .before .before .enum-told .given .1)
+    (c .before .if1 .taken)
+    (c .turned-back2 .ensures)
 
 lower-target-requires-2 : tie.Need-lower-target-requires-2
 lower-target-requires-2 c κs = search needs
 
 returns-2 : tie.Need-returns-2
-returns-2 c = search (pass-refused, needs)
+returns-2 c =
+    pass-refused _ _ _ _ _ _
+    (c .before .before .before .before .before .lower-target .ensures)
+    (c .before .before .verdict .given .1)
+    (c .turned-back .ensures)
 
 same-length : tie.Need-same-length
 same-length c = search needs
 
 returns-3 : tie.Need-returns-3
-returns-3 c = search (pass-written, needs)
+returns-3 c =
+    pass-written _ _ _ _ _ _
+    (c .before .before .before .before .before .before .before .before .before .lower-target .ensures)
+    (c .before .before .before .before .before .before .enum-told .given .1)
+    (c .before .before .before .before .if1 .left) _ _
+    (c .before .before .lower-target2 .ensures)
 
 pub write-lines-spec : {M : Type 1} → statement M
 write-lines-spec =

@@ -6,11 +6,11 @@ use borrow.Author.Needs.{needs}
 use Rattle.names.proofs.is_word.Statement.{statement}
 use Rattle.names.proofs.is_word.Tie as tie
 
-is-digit-requires : tie.Need-is-digit-requires
-is-digit-requires c κs = search needs
-
 returns : tie.Need-returns
 returns c = search (bytes, needs)
+
+is-digit-requires : tie.Need-is-digit-requires
+is-digit-requires c κs = search needs
 
 returns-2 : tie.Need-returns-2
 returns-2 c = search (bytes, needs)
@@ -24,10 +24,7 @@ returns-4 c = search (bytes, needs)
 returns-5 : tie.Need-returns-5
 returns-5 c = search (bytes, needs)
 
-returns-6 : tie.Need-returns-6
-returns-6 c = search (bytes, needs)
-
 pub is-word-spec : {M : Type 1} → statement M
 is-word-spec =
     tie.close
-    (tie.spec is-digit-requires returns returns-2 returns-3 returns-4 returns-5 returns-6)
+    (tie.spec returns is-digit-requires returns-2 returns-3 returns-4 returns-5)

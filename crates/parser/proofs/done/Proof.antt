@@ -1,3 +1,5 @@
+-- `parser::done` meets its contract, by the laws of proofs/Drives.
+-- Assumes nothing.
 use Rattle.parser.proofs.Drives.{done-passes, done-refuses}
 use borrow.Author.Needs.{needs}
 use Rattle.parser.proofs.done.Statement.{statement}

@@ -1,10 +1,12 @@
+-- `parser::emit` meets its contract, by the laws of proofs/Others.
+-- Assumes nothing.
 use Rattle.parser.proofs.Others.{block-fits, emits-block, emits-none, emits-refusal}
 use borrow.Author.Needs.{needs}
 use Rattle.parser.proofs.emit.Statement.{statement}
 use Rattle.parser.proofs.emit.Tie as tie
 
 parse-unchecked-requires : tie.Need-parse-unchecked-requires
-parse-unchecked-requires c κs = search needs
+parse-unchecked-requires c κs = c .before .before .before .before .before .before .before .pre
 
 enum-known-block : tie.Need-enum-known-block
 enum-known-block c = search needs
@@ -25,7 +27,7 @@ same-length : tie.Need-same-length
 same-length c = search needs
 
 returns : tie.Need-returns
-returns c = search (emits-block, needs)
+returns c = emits-block _ _ _ _ _ _ _ _ _ _ _ _ (c .before .before .before .before .before .before .before .before .parse-unchecked .ensures) (search needs) (c .before .before .put-block .ensures)
 
 returns-2 : tie.Need-returns-2
 returns-2 c = emits-none _ _ _ _ _ _ _ _ _ _ _ _ (c .before .before .parse-unchecked .ensures) (search needs) _ _ (search needs)

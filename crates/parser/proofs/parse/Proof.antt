@@ -1,3 +1,5 @@
+-- `parser::parse` meets its contract, by the laws of proofs/BitFields.
+-- Assumes nothing.
 use Rattle.parser.proofs.BitFields.{is-bit-yes, is-bit-no}
 use borrow.Author.Needs.{needs}
 use Rattle.parser.proofs.parse.Statement.{statement}
@@ -11,10 +13,13 @@ is-bit-requires c κs = search needs
 
 parse-bit-field-requires : tie.Need-parse-bit-field-requires
 parse-bit-field-requires c κs = (
-  c .before .before .before .before .before .before .before .before .before .before .before .pre,
+  c .before .before .before .before .before .before .before .before .before .before .before .before .before .pre .0,
   (
     c .before .before .before .field-in .ensures,
-    is-bit-yes _ _ _ _ _ _ _ _ _ _ _ (c .before .before .is-bit .ensures) (search needs),
+    (
+      is-bit-yes _ _ _ _ _ _ _ _ _ _ _ (c .before .before .is-bit .ensures) (search needs),
+      c .before .before .before .before .before .before .before .before .before .before .before .before .before .pre .1,
+    ),
   ),
 )
 
@@ -26,7 +31,7 @@ returns c = search needs
 
 parse-other-field-requires : tie.Need-parse-other-field-requires
 parse-other-field-requires c κs =
-    (c .before .before .before .before .before .before .before .before .before .before .before .pre, is-bit-no _ _ _ _ _ _ _ _ _ _ _ (c .before .before .is-bit .ensures) (search needs) (c .before .before .before .field-in .ensures))
+    (c .before .before .before .before .before .before .before .before .before .before .before .before .before .pre .0, is-bit-no _ _ _ _ _ _ _ _ _ _ _ (c .before .before .is-bit .ensures) (search needs) (c .before .before .before .field-in .ensures))
 
 same-length-2 : tie.Need-same-length-2
 same-length-2 c = search needs

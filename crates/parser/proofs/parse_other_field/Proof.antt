@@ -1,3 +1,5 @@
+-- `parser::parse_other_field` meets its contract, by the laws of proofs/Others.
+-- Assumes nothing.
 use Rattle.parser.proofs.Others.{other-open, other-goes}
 use borrow.Author.Needs.{needs}
 use Rattle.parser.proofs.parse_other_field.Statement.{statement}
@@ -13,7 +15,7 @@ enum-told : tie.Need-enum-told
 enum-told c = search needs
 
 emit-requires : tie.Need-emit-requires
-emit-requires c κs = search needs
+emit-requires c κs = (c .before .before .before .before .before .before .before .before .before .before .before .before .pre .0 .inside, c .before .before .before .before .before .before .before .before .before .before .before .before .pre .0 .fine)
 
 returns : tie.Need-returns
 returns c =
@@ -27,7 +29,13 @@ same-length : tie.Need-same-length
 same-length c = search needs
 
 returns-2 : tie.Need-returns-2
-returns-2 c = search (other-goes, needs)
+returns-2 c =
+    other-goes _ _ _ _ _ _ _ _ _ _ _
+    (c .before .before .before .before .before .before .before .before .before .before .before .before .before .before .before .pre .0)
+    (c .before .before .before .before .before .before .before .before .before .before .before .before .before .before .before .pre .1)
+    (c .before .before .before .before .before .before .before .check-code .ensures)
+    (search needs)
+    (c .before .before .emit .ensures)
 
 pub parse-other-field-spec : {M : Type 1} → statement M
 parse-other-field-spec =

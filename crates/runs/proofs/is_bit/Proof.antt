@@ -1,10 +1,9 @@
+-- `runs::is_bit` meets its contract, by the laws of proofs/Runs.
+-- Assumes nothing.
 use Rattle.runs.proofs.Runs.{bit-plain, bit-optional}
 use borrow.Author.Needs.{needs}
 use Rattle.runs.proofs.is_bit.Statement.{statement}
 use Rattle.runs.proofs.is_bit.Tie as tie
-use Rattle.runs.proofs.is_bit.Reads as reads
-use Rattle.runs.proofs.is_bit.Lts as lts
-use Rattle.rows.proofs.is_bitfield.Reads as is-bitfield-reads
 
 enum-told : tie.Need-enum-told
 enum-told c = search needs

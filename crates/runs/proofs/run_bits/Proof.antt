@@ -1,15 +1,11 @@
+-- `runs::run_bits` meets its contract, by the laws of proofs/Runs.
+-- Assumes nothing.
 use Prim.Native.Nat.{_≤_, _-_}
 use Rattle.runs.proofs.Rests.{size-fine}
 use Rattle.runs.proofs.Runs.{Summed, run-start, run-end, run-stop, run-turn, run-fits}
 use borrow.Author.Needs.{needs}
 use Rattle.runs.proofs.run_bits.Statement.{statement}
 use Rattle.runs.proofs.run_bits.Tie as tie
-use Rattle.runs.proofs.run_bits.Reads as reads
-use Rattle.runs.proofs.run_bits.Lts as lts
-use Rattle.annotate.proofs.field_size.Reads as field-size-reads
-use Rattle.references.proofs.field_in.Reads as field-in-reads
-use Rattle.runs.proofs.is_bit.Reads as is-bit-reads
-use Rattle.runs.proofs.static_width.Reads as static-width-reads
 
 abbrev Inv-loop : tie.InvT-loop
 Inv-loop rec places own parents payloads fields i n k sum₀ j₀ sum j = (k ≤ j) × Summed rec places own parents payloads fields i n k j sum
@@ -33,7 +29,19 @@ static-width-requires : tie.Need-static-width-requires Inv-loop μ-loop
 static-width-requires c κs = search needs
 
 add-sum : tie.Need-add-sum Inv-loop μ-loop
-add-sum c = record { fits = search (run-fits, needs) }
+add-sum c = record {
+  fits =
+      run-fits _ _ _ _ _ _ _ _ _ _ _
+      (c .before .before .before .before .before .before .loop .inv .1)
+      (search needs)
+      (c .before .before .before .before .field-in .ensures)
+      (c .before .before .before .is-bit .ensures)
+      (search needs)
+      (c .before .field-size .ensures)
+      (c .static-width .ensures)
+      (c .before .before .before .before .before .before .loop .inv .0)
+      (c .before .before .before .before .before .before .before .before .before .before .before .before .before .pre);
+}
 
 add-j : tie.Need-add-j Inv-loop μ-loop
 add-j c = search needs

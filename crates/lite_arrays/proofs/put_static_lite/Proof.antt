@@ -1,0 +1,90 @@
+use Rattle.array_lines.proofs.Products.{fits-count}
+use Rattle.lite_arrays.proofs.Lite.{lite-static-count, lite-static-counted, lite-static-sized, lite-static-rest}
+use borrow.Author.Needs.{needs}
+use Rattle.lite_arrays.proofs.put_static_lite.Statement.{statement}
+use Rattle.lite_arrays.proofs.put_static_lite.Tie as tie
+
+enum-known-array-size : tie.Need-enum-known-array-size
+enum-known-array-size c = search needs
+
+mul-total-size : tie.Need-mul-total-size
+mul-total-size c = search (fits-count, needs)
+
+put-taken-requires : tie.Need-put-taken-requires
+put-taken-requires c κs = search needs
+
+enum-told : tie.Need-enum-told
+enum-told c = search needs
+
+put-taken-requires-2 : tie.Need-put-taken-requires-2
+put-taken-requires-2 c κs = search needs
+
+enum-told-2 : tie.Need-enum-told-2
+enum-told-2 c = search needs
+
+check-size-requires : tie.Need-check-size-requires
+check-size-requires c κs = search needs
+
+put-ragged-requires : tie.Need-put-ragged-requires
+put-ragged-requires c κs = search needs
+
+put-cut-requires : tie.Need-put-cut-requires
+put-cut-requires c κs = search needs
+
+enum-told-3 : tie.Need-enum-told-3
+enum-told-3 c = search needs
+
+put-ragged-requires-2 : tie.Need-put-ragged-requires-2
+put-ragged-requires-2 c κs = search needs
+
+put-whole-requires : tie.Need-put-whole-requires
+put-whole-requires c κs = search needs
+
+same-length : tie.Need-same-length
+same-length c = search needs
+
+returns : tie.Need-returns
+returns c = search (lite-static-count, needs)
+
+same-length-2 : tie.Need-same-length-2
+same-length-2 c = search needs
+
+returns-2 : tie.Need-returns-2
+returns-2 c = search (lite-static-counted, needs)
+
+same-length-3 : tie.Need-same-length-3
+same-length-3 c = search needs
+
+returns-3 : tie.Need-returns-3
+returns-3 c = search (lite-static-sized, needs)
+
+same-length-4 : tie.Need-same-length-4
+same-length-4 c = search needs
+
+returns-4 : tie.Need-returns-4
+returns-4 c = search (lite-static-rest, needs)
+
+pub put-static-lite-spec : {M : Type 1} → statement M
+put-static-lite-spec =
+    tie.close
+    (tie.spec
+    enum-known-array-size
+    mul-total-size
+    put-taken-requires
+    enum-told
+    put-taken-requires-2
+    enum-told-2
+    check-size-requires
+    put-ragged-requires
+    put-cut-requires
+    enum-told-3
+    put-ragged-requires-2
+    put-whole-requires
+    same-length
+    returns
+    same-length-2
+    returns-2
+    same-length-3
+    returns-3
+    same-length-4
+    returns-4)
