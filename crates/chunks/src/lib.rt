@@ -85,12 +85,17 @@ fn grow(t: State, kind: KindAt, width: u64) -> State
     let c = t.chunk;
     let shift = t.shift;
     let i = c.len;
+    let d = push(c, shift, width);
+    let mut kinds = t.kinds;
     let h = Held { kind };
-    let mut u = t;
-    u.chunk = push(c, shift, width);
-    u.kinds[i] = h;
-    u.shift = shift + width;
-    u
+    kinds[i] = h;
+    State {
+        chunk: d,
+        kinds,
+        shift: shift + width,
+        nr: t.nr,
+        pending: t.pending,
+    }
 }
 
 // The number of the next chunk: it goes up only for a chunk of more than one field that is no skip.
@@ -146,11 +151,15 @@ fn close<'a>(
     let p = check_size(out, at, t.pending, (shift + later) / 8);
     let q = chunk_lines::put_chunk(rec, word, out, p, m, order, nr, c, kinds, backing, shift);
     let next = next_nr(kinds, n, nr);
-    let mut u = t;
-    u.chunk.len = 0;
-    u.shift = 0;
-    u.nr = next;
-    u.pending = true;
+    let mut d = c;
+    d.len = 0;
+    let u = State {
+        chunk: d,
+        kinds,
+        shift: 0,
+        nr: next,
+        pending: true,
+    };
     Step {
         verdict: Verdict::Pass,
         at: q,
