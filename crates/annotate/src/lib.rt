@@ -4,6 +4,7 @@
 use definitions::Cond;
 use definitions::Field;
 use definitions::FieldDesc;
+use definitions::Found;
 use definitions::MaybeNumber;
 use definitions::MaybePart;
 use definitions::Part;
@@ -204,7 +205,7 @@ fn padding_bits(desc: FieldDesc) -> MaybeNumber
     }
 }
 
-// `padded_size` of field k: what the field behind it sets.
+// `padded_size` of field k: what the field behind it sets. Where that is no padding, no more of it is read than its kind.
 pub fn padded_size(rec: &[u8], fields: &[usize], i: usize, n: usize, k: usize) -> MaybeNumber
     ensures { λ r. ⌜ r ≡ cappedNumber (paddedBy (fieldsFrom (now (rec .entry)) (now (fields .entry)) (i * 64 + (k + 1)) (n - (k + 1)))) ⌝ }
 {
@@ -215,7 +216,11 @@ pub fn padded_size(rec: &[u8], fields: &[usize], i: usize, n: usize, k: usize) -
     if n <= next {
         return MaybeNumber::None;
     }
-    let f = references::field_in(rec, fields, i, next);
+    let at = references::place_in(fields, i, next);
+    let Found::At(_) = names::key_at(rec, at, b"field=padding\n") else {
+        return MaybeNumber::None;
+    };
+    let f = places::field_here(rec, at);
     let desc = f.desc;
     padding_bits(desc)
 }

@@ -7,7 +7,7 @@ use mathlib.Core.Path.{_≡_, refl, sym, ap, _∙_, subst}
 use Prim.Native.Nat.{ℕ, _+_, _%_}
 use native.Mathlib.Omega.{arith}
 use lib.Dec.{eqb, ltb}
-use lib.ListN.{length, length-replicate}
+use lib.ListN.{length, replicate, length-replicate}
 use borrow.Author.Tests.{ne-eqb}
 use Rattle.definitions.specs.Bytes.{Text}
 use Rattle.definitions.specs.Sizes.{Annotated}
@@ -35,11 +35,11 @@ onVerdict (Verdict.Refuse why) next = refuses why
 
 -- ---- the start
 
-pub new-view : (m : Arrays) (s word : Text) → view m s word newState ≡ fresh
+pub new-view : (m : Arrays) (s word : Text) (kinds : List Held) → view m s word newState kinds ≡ fresh
 unfolding bitsOf
-new-view m s word = refl
+new-view m s word kinds = refl
 
-pub new-long : Long newState
+pub new-long : Long newState (replicate 64 (record { kind = KindAt.Reserved }))
 new-long = record {
   shifts = length-replicate {A = ℕ} 64 0;
   widths = length-replicate {A = ℕ} 64 0;
@@ -71,7 +71,7 @@ module _ (c : Setting) (a : Annotated) (later : List Annotated) (s : flow.State)
 
 -- ---- `check_code`
 
-module _ (m : Arrays) (s word : Text) (t : State) where
+module _ (m : Arrays) (s word : Text) (t : State) (kinds : List Held) where
   -- a chunk without fields
   by-length : (bs : List Bit) (next : Result) → flushing true bs next ≡ elim (eqb (length bs) 0) [ true ↦ next | false ↦ refuses Refusal.OpenChunk ]
   by-length [] next = refl
@@ -79,43 +79,43 @@ module _ (m : Arrays) (s word : Text) (t : State) where
 
   -- the chunk has as many fields as its length says
   by-len : (b : Bool) → eqb (t .chunk .len) 0 ≡ b → (next : Result)
-      → flushing true (view m s word t .chunk) next ≡ elim b [ true ↦ next | false ↦ refuses Refusal.OpenChunk ]
+      → flushing true (view m s word t kinds .chunk) next ≡ elim b [ true ↦ next | false ↦ refuses Refusal.OpenChunk ]
   by-len b f next =
-      by-length (view m s word t .chunk) next
-      ∙ ap (λ (k : ℕ). elim (eqb k 0) [ true ↦ next | false ↦ refuses Refusal.OpenChunk ]) (bits-length m s word (t .chunk) (t .kinds) (t .chunk .len))
+      by-length (view m s word t kinds .chunk) next
+      ∙ ap (λ (k : ℕ). elim (eqb k 0) [ true ↦ next | false ↦ refuses Refusal.OpenChunk ]) (bits-length m s word (t .chunk) kinds (t .chunk .len))
       ∙ ap (λ (x : Bool). elim x [ true ↦ next | false ↦ refuses Refusal.OpenChunk ]) f
 
   flushes : (p b : Bool) → t .pending ≡ p → eqb (t .chunk .len) 0 ≡ b → (next : Result)
-      → flushing p (view m s word t .chunk) next ≡ onVerdict (codeChecked t .verdict) next
+      → flushing p (view m s word t kinds .chunk) next ≡ onVerdict (codeChecked t .verdict) next
   flushes true true e f next = by-len true f next ∙ ap (λ (x : Checked). onVerdict (x .verdict) next) (sym (code-by t true true e f))
   flushes true false e f next = by-len false f next ∙ ap (λ (x : Checked). onVerdict (x .verdict) next) (sym (code-by t true false e f))
   flushes false b e f next = ap (λ (x : Checked). onVerdict (x .verdict) next) (sym (code-by t false b e f))
 
   -- before any other field, and at the end
-  pub code-flushes : (next : Result) → flushing (t .pending) (view m s word t .chunk) next ≡ onVerdict (codeChecked t .verdict) next
+  pub code-flushes : (next : Result) → flushing (t .pending) (view m s word t kinds .chunk) next ≡ onVerdict (codeChecked t .verdict) next
   code-flushes next = flushes (t .pending) (eqb (t .chunk .len) 0) refl refl next
 
   calms : (p b : Bool) → t .pending ≡ p → eqb (t .chunk .len) 0 ≡ b → codeChecked t .verdict ≡ Verdict.Pass
-      → view m s word (codeChecked t .state) ≡ calm (view m s word t)
-  calms true true e f v = ap (λ (x : Checked). view m s word (x .state)) (code-by t true true e f)
+      → view m s word (codeChecked t .state) kinds ≡ calm (view m s word t kinds)
+  calms true true e f v = ap (λ (x : Checked). view m s word (x .state) kinds) (code-by t true true e f)
   calms true false e f v =
       let q : Verdict.Refuse Refusal.OpenChunk ≡ Verdict.Pass = ap (λ (x : Checked). x .verdict) (sym (code-by t true false e f)) ∙ v in
       let z : _≡_ {A = ℕ} 0 1 = cc in
       absurd (omega arith)
   calms false b e f v =
-      ap (λ (x : Checked). view m s word (x .state)) (code-by t false b e f)
-      ∙ ap (λ (x : Bool). record { shift = t .shift; chunk = view m s word t .chunk; chunkNr = t .nr; pending = x }) e
+      ap (λ (x : Checked). view m s word (x .state) kinds) (code-by t false b e f)
+      ∙ ap (λ (x : Bool). record { shift = t .shift; chunk = view m s word t kinds .chunk; chunkNr = t .nr; pending = x }) e
 
   -- the state goes on with nothing pending
-  pub code-calms : codeChecked t .verdict ≡ Verdict.Pass → view m s word (codeChecked t .state) ≡ calm (view m s word t)
+  pub code-calms : codeChecked t .verdict ≡ Verdict.Pass → view m s word (codeChecked t .state) kinds ≡ calm (view m s word t kinds)
   code-calms v = calms (t .pending) (eqb (t .chunk .len) 0) refl refl v
 
-long-by : (t : State) (p b : Bool) → t .pending ≡ p → eqb (t .chunk .len) 0 ≡ b → Long t → Long (codeChecked t .state)
-long-by t true true e f long =
-    subst (λ (x : Checked). Long (x .state)) (sym (code-by t true true e f))
+long-by : (t : State) (kinds : List Held) (p b : Bool) → t .pending ≡ p → eqb (t .chunk .len) 0 ≡ b → Long t kinds → Long (codeChecked t .state) kinds
+long-by t kinds true true e f long =
+    subst (λ (x : Checked). Long (x .state) kinds) (sym (code-by t true true e f))
     (record { shifts = long .shifts; widths = long .widths; kinds = long .kinds })
-long-by t true false e f long = subst (λ (x : Checked). Long (x .state)) (sym (code-by t true false e f)) long
-long-by t false b e f long = subst (λ (x : Checked). Long (x .state)) (sym (code-by t false b e f)) long
+long-by t kinds true false e f long = subst (λ (x : Checked). Long (x .state) kinds) (sym (code-by t true false e f)) long
+long-by t kinds false b e f long = subst (λ (x : Checked). Long (x .state) kinds) (sym (code-by t false b e f)) long
 
-pub code-long : (t : State) → Long t → Long (codeChecked t .state)
-code-long t long = long-by t (t .pending) (eqb (t .chunk .len) 0) refl refl long
+pub code-long : (t : State) (kinds : List Held) → Long t kinds → Long (codeChecked t .state) kinds
+code-long t kinds long = long-by t kinds (t .pending) (eqb (t .chunk .len) 0) refl refl long

@@ -1,5 +1,6 @@
 pub mod Numbers
 pub mod Grown
+pub mod Closes
 pub mod Bits
 pub mod Codes
 pub mod Advances

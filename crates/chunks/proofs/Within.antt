@@ -20,6 +20,7 @@ use Rattle.definitions.specs.declared.Size.{Size}
 use Rattle.stream.specs.Stream.{fresh, runBits, calm}
 use Rattle.stream.specs.Stream as flow
 use Rattle.stream.proofs.Steps.{run-bit, run-no}
+use Rattle.chunk_lines.specs.declared.Held.{Held}
 use Rattle.chunk_lines.proofs.Fields.{widths-more, bits-length}
 use Rattle.chunks.specs.declared.State.{State}
 use Rattle.chunks.specs.Steps.{view, Long, grownBits, bitAdvance, Ready}
@@ -74,10 +75,10 @@ module _ (order : EndiannessValue) (s : flow.State) (kind : Kind) (width later n
   within-bit = by-tests (eqb ((s .shift + width) % 8) 0) (ltb 64 (s .shift + width)) refl refl
 
 -- what a bit field asks
-pub within-ready : (m : Arrays) (s word : Text) (t : State) (n bits width later : ℕ) → Within (view m s word t) n bits → Long t → n < 64
-    → bits + width + later < 2 ^ 64 → Ready m s word t width later
-within-ready m s word t n bits width later w long h k = record {
-  room = omega (arith, w .fields, bits-length m s word (t .chunk) (t .kinds) (t .chunk .len));
+pub within-ready : (m : Arrays) (s word : Text) (t : State) (kinds : List Held) (n bits width later : ℕ) → Within (view m s word t kinds) n bits
+    → Long t kinds → n < 64 → bits + width + later < 2 ^ 64 → Ready m s word t kinds width later
+within-ready m s word t kinds n bits width later w long h k = record {
+  room = omega (arith, w .fields, bits-length m s word (t .chunk) kinds (t .chunk .len));
   sum = w .sum;
   fits = omega (arith, w .shifts);
   few = omega (arith, w .chunks);

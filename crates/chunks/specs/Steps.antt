@@ -3,7 +3,7 @@
 use mathlib.Core.Bool.{true, false}
 use mathlib.Core.List.{List, [], _∷_, _++_}
 use mathlib.Core.Path.{_≡_}
-use Prim.Native.Nat.{ℕ, _+_, _/_, _%_, _<_, _^_}
+use Prim.Native.Nat.{ℕ, _+_, _/_, _%_, _≤_, _<_, _^_}
 use lib.Dec.{eqb, ltb}
 use lib.ListN.{length, set, replicate}
 use Rattle.definitions.specs.Bytes.{Text}
@@ -20,34 +20,33 @@ use Rattle.bit_fields.specs.declared.KindAt.{KindAt}
 use Rattle.bit_fields.specs.Kinds.{kindIn}
 use Rattle.chunk_lines.specs.declared.Chunk.{Chunk}
 use Rattle.chunk_lines.specs.declared.Held.{Held}
-use Rattle.chunk_lines.specs.Bits.{allReserved, bitsOf, Closed}
+use Rattle.chunk_lines.specs.Bits.{allReserved, bitsOf}
 use Rattle.chunks.specs.declared.State.{State}
 use Rattle.chunks.specs.declared.Step.{Step}
 use Rattle.chunks.specs.declared.Checked.{Checked}
 
 -- ---- the state of the code
 
--- as the stream's: of a record, its word bytes and its mode
-abbrev pub view : Arrays → Text → Text → State → flow.State
-view m s word t =
+-- as the stream's: of a record, its word bytes and its mode, with the kinds of the chunk's fields
+abbrev pub view : Arrays → Text → Text → State → List Held → flow.State
+view m s word t kinds =
     record {
       shift = t .shift;
-      chunk = bitsOf m s word (t .chunk) (t .kinds) (t .chunk .len);
+      chunk = bitsOf m s word (t .chunk) kinds (t .chunk .len);
       chunkNr = t .nr;
       pending = t .pending;
     }
 
--- its arrays have their lengths
-pub record Long (t : State) : Type 0 where
+-- the arrays have their lengths
+pub record Long (t : State) (held : List Held) : Type 0 where
   pub shifts : length (t .chunk .shifts) ≡ 64
   pub widths : length (t .chunk .widths) ≡ 64
-  pub kinds : length (t .kinds) ≡ 64
+  pub kinds : length held ≡ 64
 
 abbrev pub newState : State
 newState =
     record {
       chunk = record { shifts = replicate 64 0; widths = replicate 64 0; len = 0 };
-      kinds = replicate 64 (record { kind = KindAt.Reserved });
       shift = 0;
       nr = 0;
       pending = false;
@@ -57,34 +56,31 @@ abbrev pub pushed : Chunk → ℕ → ℕ → Chunk
 pushed c shift width =
     record { shifts = set (c .shifts) (c .len) shift; widths = set (c .widths) (c .len) width; len = c .len + 1 }
 
-abbrev pub grownState : State → KindAt → ℕ → State
-grownState t kind width =
-    record {
-      chunk = pushed (t .chunk) (t .shift) width;
-      kinds = set (t .kinds) (t .chunk .len) (record { kind = kind });
-      shift = t .shift + width;
-      nr = t .nr;
-      pending = t .pending;
-    }
+abbrev pub grownState : State → ℕ → State
+grownState t width =
+    record { chunk = pushed (t .chunk) (t .shift) width; shift = t .shift + width; nr = t .nr; pending = t .pending }
+
+-- the kinds with that of one field more
+abbrev pub grownKinds : State → List Held → KindAt → List Held
+grownKinds t kinds kind = set kinds (t .chunk .len) (record { kind = kind })
 
 -- the number of the next chunk, by the first n kinds
 unfoldable pub nextOf : List Held → ℕ → ℕ → ℕ
 nextOf kinds n nr = elim (allReserved kinds n) [ true ↦ nr | false ↦ elim (ltb n 2) [ true ↦ nr | false ↦ nr + 1 ] ]
 
-abbrev pub closedState : State → State
-closedState t =
+abbrev pub closedState : State → List Held → State
+closedState t kinds =
     record {
       chunk = record { shifts = t .chunk .shifts; widths = t .chunk .widths; len = 0 };
-      kinds = t .kinds;
       shift = 0;
-      nr = nextOf (t .kinds) (t .chunk .len) (t .nr);
+      nr = nextOf kinds (t .chunk .len) (t .nr);
       pending = true;
     }
 
 -- ---- `check_code`
 
 abbrev pub calmState : State → State
-calmState t = record { chunk = t .chunk; kinds = t .kinds; shift = t .shift; nr = t .nr; pending = false }
+calmState t = record { chunk = t .chunk; shift = t .shift; nr = t .nr; pending = false }
 
 -- 10: lines are pending, and a chunk is open
 unfoldable pub codeChecked : State → Checked
@@ -96,24 +92,8 @@ codeChecked t = elim (t .pending) [
   | false ↦ record { verdict = Verdict.Pass; state = t }
 ]
 
--- ---- a closed chunk
+-- ---- what a bit field comes to in the stream
 
-pub record Closing (t : State) (backing later : ℕ) : Type 0 where
-  pub closed : Closed (t .chunk) backing (t .shift)
-  pub fits : t .shift + later < 2 ^ 64
-  pub few : t .nr + 1 < 2 ^ 64
-
-pub record ChunkClosed (m : Arrays) (s word : Text) (order : EndiannessValue) (t : State) (later : ℕ) (out : Text) (at : ℕ) (r : Step) (left : Text) : Type 0 where
-  pub passes : r .verdict ≡ Verdict.Pass
-  pub wrote : Put out at
-      (checkText (t .pending) ((t .shift + later) / 8) ++ chunkText order (t .nr) (bitsOf m s word (t .chunk) (t .kinds) (t .chunk .len)))
-      (r .at)
-      left
-  pub after : r .state ≡ closedState t
-
--- ---- `parse_bit_field`
-
--- what one bit field comes to in the stream
 pub record Advance : Type 0 where
   pub verdict : Verdict
   pub lines : Text
@@ -141,16 +121,47 @@ module _ (order : EndiannessValue) (s : flow.State) (kind : Kind) (width later :
     }
   ]
 
--- what a bit field asks of the state: room in the chunk, which has the bits of its fields, and sums that fit
-pub record Ready (m : Arrays) (s word : Text) (t : State) (width later : ℕ) : Type 0 where
+-- ---- `close`
+
+-- a chunk at an octet boundary; 12: it has more than 64 bits
+unfoldable pub closeAdvance : EndiannessValue → flow.State → ℕ → Advance
+closeAdvance order s later = elim (ltb 64 (s .shift)) [
+  | true ↦ record { verdict = Verdict.Refuse Refusal.ScalarTooWide; lines = []; after = s }
+  | false ↦ record {
+    verdict = Verdict.Pass;
+    lines = checkText (s .pending) ((s .shift + later) / 8) ++ chunkText order (s .chunkNr) (s .chunk);
+    after = record { shift = 0; chunk = []; chunkNr = nextNr (s .chunkNr) (s .chunk); pending = true };
+  }
+]
+
+-- what it asks of the state: a chunk of some fields, which has their bits, and sums that fit
+pub record Closing (m : Arrays) (s word : Text) (t : State) (kinds : List Held) (later : ℕ) : Type 0 where
+  pub some : 0 < t .chunk .len
+  pub short : t .chunk .len ≤ 64
+  pub sum : t .shift ≡ widths (view m s word t kinds .chunk)
+  pub fits : t .shift + later < 2 ^ 64
+  pub few : t .nr + 1 < 2 ^ 64
+  pub long : Long t kinds
+
+pub record ChunkClosed (m : Arrays) (s word : Text) (order : EndiannessValue) (t : State) (kinds : List Held) (later : ℕ) (out : Text) (at : ℕ) (r : Step) (left : Text) : Type 0 where
+  pub verdict-is : r .verdict ≡ closeAdvance order (view m s word t kinds) later .verdict
+  pub wrote : Put out at (closeAdvance order (view m s word t kinds) later .lines) (r .at) left
+  pub after : view m s word (r .state) kinds ≡ closeAdvance order (view m s word t kinds) later .after
+  pub long : Long (r .state) kinds
+
+-- ---- a bit field: `grow`, and `close` at an octet boundary
+
+-- what it asks of the state: room in the chunk, which has the bits of its fields, and sums that fit
+pub record Ready (m : Arrays) (s word : Text) (t : State) (kinds : List Held) (width later : ℕ) : Type 0 where
   pub room : t .chunk .len < 64
-  pub sum : t .shift ≡ widths (view m s word t .chunk)
+  pub sum : t .shift ≡ widths (view m s word t kinds .chunk)
   pub fits : t .shift + width + later < 2 ^ 64
   pub few : t .nr + 1 < 2 ^ 64
-  pub long : Long t
+  pub long : Long t kinds
 
-pub record BitParsed (m : Arrays) (s word : Text) (order : EndiannessValue) (t : State) (kind : KindAt) (width later : ℕ) (out : Text) (at : ℕ) (r : Step) (left : Text) : Type 0 where
-  pub verdict-is : r .verdict ≡ bitAdvance order (view m s word t) (kindIn m s word kind) width later .verdict
-  pub wrote : Put out at (bitAdvance order (view m s word t) (kindIn m s word kind) width later .lines) (r .at) left
-  pub after : view m s word (r .state) ≡ bitAdvance order (view m s word t) (kindIn m s word kind) width later .after
-  pub long : Long (r .state)
+-- what it comes to, with the kinds that are held then
+pub record BitParsed (m : Arrays) (s word : Text) (order : EndiannessValue) (t : State) (kinds : List Held) (kind : KindAt) (width later : ℕ) (out : Text) (at : ℕ) (r : Step) (held : List Held) (left : Text) : Type 0 where
+  pub verdict-is : r .verdict ≡ bitAdvance order (view m s word t kinds) (kindIn m s word kind) width later .verdict
+  pub wrote : Put out at (bitAdvance order (view m s word t kinds) (kindIn m s word kind) width later .lines) (r .at) left
+  pub after : r .verdict ≡ Verdict.Pass → view m s word (r .state) held ≡ bitAdvance order (view m s word t kinds) (kindIn m s word kind) width later .after
+  pub long : Long (r .state) held

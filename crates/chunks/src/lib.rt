@@ -1,6 +1,6 @@
-// Chunks and their checks: `parse_bit_field`, `check_size` and `check_code` of cxx.rs, with refusals 10 and 12 of document 01. The state goes in and
-// comes back by value. A run's lines are not held back: its check is written before its first chunk, with the bits that follow in the run as `later`.
-use bit_fields::KindAt;
+// Chunks and their checks: what `parse_bit_field` does to its chunk, `check_size` and `check_code` of cxx.rs, with refusals 10 and 12 of document 01.
+// The state goes in and comes back by value; the kinds of the chunk's fields stay with the driver, which hands them over where the chunk closes.
+// A run's lines are not held back: its check is written before its first chunk, with the bits that follow in the run as `later`.
 use chunk_lines::Chunk;
 use chunk_lines::Held;
 use definitions::Arrays;
@@ -12,12 +12,11 @@ ghost use mathlib.Core.Path.{_≡_};
 ghost use Prim.Native.Nat.{_+_, _≤_, _<_, _^_};
 ghost use Rattle.stream.specs.Stream.{checkText};
 ghost use Rattle.text.specs.Put.{Put};
-ghost use Rattle.chunks.specs.Steps.{newState, pushed, grownState, nextOf, codeChecked, Closing, Ready, ChunkClosed, BitParsed};
+ghost use Rattle.chunks.specs.Steps.{newState, pushed, grownState, nextOf, codeChecked, Closing, ChunkClosed};
 
-// The parser's open chunk, the kinds of its fields beside it, and whether the present run has its check.
+// The parser's open chunk, and whether the present run has its check.
 pub struct State {
     pub chunk: Chunk,
-    pub kinds: [Held; 64],
     pub shift: u64,
     pub nr: u64,
     pub pending: bool,
@@ -40,8 +39,6 @@ pub struct Checked {
 pub fn new() -> State
     ensures { λ r. ⌜ r ≡ newState ⌝ }
 {
-    let k = KindAt::Reserved;
-    let h = Held { kind: k };
     let c = Chunk {
         shifts: [0; 64],
         widths: [0; 64],
@@ -49,7 +46,6 @@ pub fn new() -> State
     };
     State {
         chunk: c,
-        kinds: [h; 64],
         shift: 0,
         nr: 0,
         pending: false,
@@ -78,20 +74,15 @@ pub fn push_in(c: &mut Chunk, shift: u64, width: u64)
 }
 
 // The state with one field more in its chunk.
-fn grow(t: State, kind: KindAt, width: u64) -> State
+pub fn grow(t: State, width: u64) -> State
     requires { ⌜ (t .chunk .len < 64) × (t .shift + width < 2 ^ 64) ⌝ }
-    ensures { λ r. ⌜ r ≡ grownState t kind width ⌝ }
+    ensures { λ r. ⌜ r ≡ grownState t width ⌝ }
 {
     let c = t.chunk;
     let shift = t.shift;
-    let i = c.len;
     let d = push(c, shift, width);
-    let mut kinds = t.kinds;
-    let h = Held { kind };
-    kinds[i] = h;
     State {
         chunk: d,
-        kinds,
         shift: shift + width,
         nr: t.nr,
         pending: t.pending,
@@ -128,8 +119,9 @@ pub fn check_size(out: &mut [u8], at: usize, pending: bool, n: u64) -> usize
     )
 }
 
-// The chunk is at an octet boundary: the check of its run where it is the first, and its lines.
-fn close<'a>(
+// The chunk is at an octet boundary: 12, or the check of its run where it is the first, and its lines. `later` are the bits of the bit fields behind
+// it up to the next other field.
+pub fn close<'a>(
     rec: &'a [u8],
     word: &'a [u8],
     out: &mut [u8],
@@ -137,63 +129,47 @@ fn close<'a>(
     m: Arrays,
     order: EndiannessValue,
     t: State,
-    backing: u64,
+    kinds: [Held; 64],
     later: u64,
 ) -> Step
-    requires { ⌜ Closing t backing later ⌝ }
-    ensures { λ r. ⌜ ChunkClosed m (now (rec .entry)) (now (word .entry)) order t later (now (out .entry)) at r (now (out .exit)) ⌝ }
+    requires { ⌜ Closing m (now rec) (now word) t kinds later ⌝ }
+    ensures { λ r. ⌜ ChunkClosed m (now (rec .entry)) (now (word .entry)) order t kinds later (now (out .entry)) at r (now (out .exit)) ⌝ }
 {
-    let c = t.chunk;
-    let kinds = t.kinds;
     let shift = t.shift;
-    let nr = t.nr;
-    let n = c.len;
-    let p = check_size(out, at, t.pending, (shift + later) / 8);
-    let q = chunk_lines::put_chunk(rec, word, out, p, m, order, nr, c, kinds, backing, shift);
-    let next = next_nr(kinds, n, nr);
-    let mut d = c;
-    d.len = 0;
-    let u = State {
-        chunk: d,
-        kinds,
-        shift: 0,
-        nr: next,
-        pending: true,
-    };
-    Step {
-        verdict: Verdict::Pass,
-        at: q,
-        state: u,
-    }
-}
-
-// `parse_bit_field`, of a field with its kind and width; `later` are the bits of the bit fields behind it up to the next other field.
-pub fn parse_bit_field<'a>(
-    rec: &'a [u8],
-    word: &'a [u8],
-    out: &mut [u8],
-    at: usize,
-    m: Arrays,
-    order: EndiannessValue,
-    t: State,
-    kind: KindAt,
-    width: u64,
-    later: u64,
-) -> Step
-    requires { ⌜ Ready m (now rec) (now word) t width later ⌝ }
-    ensures { λ r. ⌜ BitParsed m (now (rec .entry)) (now (word .entry)) order t kind width later (now (out .entry)) at r (now (out .exit)) ⌝ }
-{
-    let u = grow(t, kind, width);
-    let sum = u.shift;
-    if sum % 8 != 0 {
-        return Step {
-            verdict: Verdict::Pass,
-            at,
-            state: u,
-        };
-    }
-    match text::get_cxx_scalar_type(sum) {
-        ScalarType::Bits(backing) => close(rec, word, out, at, m, order, u, backing, later),
+    match text::get_cxx_scalar_type(shift) {
+        ScalarType::Bits(backing) => {
+            let c = t.chunk;
+            let nr = t.nr;
+            let n = c.len;
+            let p = check_size(out, at, t.pending, (shift + later) / 8);
+            let q = chunk_lines::put_chunk(
+                rec,
+                word,
+                out,
+                p,
+                m,
+                order,
+                nr,
+                c,
+                kinds,
+                backing,
+                shift,
+            );
+            let next = next_nr(kinds, n, nr);
+            let mut d = c;
+            d.len = 0;
+            let u = State {
+                chunk: d,
+                shift: 0,
+                nr: next,
+                pending: true,
+            };
+            Step {
+                verdict: Verdict::Pass,
+                at: q,
+                state: u,
+            }
+        }
         ScalarType::TooWide => Step {
             verdict: Verdict::Refuse(Refusal::ScalarTooWide),
             at,

@@ -1,10 +1,11 @@
 -- The turns and the ends of the loops over a name, and the names that are forbidden (`nameOf`, `isForbidden`, `nameAt`).
 -- Assumes nothing.
-use Prim.Native.Nat.{ℕ, _+_, _-_, _≤_, _<_}
+use Prim.Native.Nat.{ℕ, zero, suc, _+_, _-_, _≤_, _<_}
 use mathlib.Core.List.{List}
 use mathlib.Core.Bool.{Bool, true, false, not}
-use mathlib.Core.Path.{_≡_, sym, _∙_}
+use mathlib.Core.Path.{_≡_, refl, sym, ap, _∙_}
 use native.Mathlib.Numerals.{add-one}
+use native.Mathlib.Omega.{arith}
 use borrow.Author.Tests.{eq-eqb, ne-eqb, not-true, not-false}
 use lib.ListN.{drop, length, getD, drop-of-length-le}
 use lib.Seq.{drop-cons}
@@ -12,6 +13,7 @@ use Rattle.definitions.specs.Bytes.{isDigit, isWord, text}
 use Rattle.definitions.specs.Record.{keyAt, wordOf, nameOf, nameAt, partOf, digitsLine, someDigits, isForbidden}
 use Rattle.definitions.specs.declared.Found.{Found}
 use Rattle.definitions.specs.declared.NameRead.{NameRead}
+use Rattle.names.specs.Limits.{Limit}
 
 -- ---- a name
 
@@ -55,6 +57,78 @@ module _ (s : List ℕ) (p : ℕ) (w : p < length s) {r : Bool} (q : r ≡ isDig
     pub first-word : (getD s p 0 ≡ 10 → ⊥) → wordOf (drop p s) p 0 p ≡ nameOf (drop p s) p
     unfolding nameOf
     first-word h = rw (drop-cons s p 0 w, sym q ∙ z, ne-eqb _ _ h, nameOf)
+
+-- ---- a name, up to its limit
+
+-- before the byte p: behind 33 bytes without a newline there is no name
+pub record Reading (s : List ℕ) (at limit p : ℕ) (e : NameRead) : Type 0 where
+  pub start : at ≤ p
+  pub bound : p ≤ limit
+  pub word : p < at + 33 → wordOf (drop p s) at (p - at) p ≡ e
+  pub long : p ≡ at + 33 → NameRead.Wrong ≡ e
+
+newline-no-word : isWord 10 ≡ false
+unfolding isWord isDigit
+newline-no-word = refl
+
+word-newline : {b : ℕ} → isWord b ≡ true → b ≡ 10 → ⊥
+word-newline h e = absurd (let q : _≡_ {A = Bool} false true = sym newline-no-word ∙ sym (ap isWord e) ∙ h in let v : _≡_ {A = ℕ} 0 1 = cc in omega arith)
+
+module _ (s : List ℕ) (at limit : ℕ) (l : Limit (length s) at limit) where
+  pub read-start : at < length s → {e : NameRead} → wordOf (drop at s) at 0 at ≡ e → Reading s at limit at e
+  read-start h {e} w = record {
+    start = omega arith;
+    bound = by (length s - limit) refl;
+    word = λ k. ap (λ (n : ℕ). wordOf (drop at s) at n at) (let z : at - at ≡ 0 = omega arith in z) ∙ w;
+    long = λ k. absurd (omega (arith, k));
+  }
+    where
+      by : (d : ℕ) → d ≡ length s - limit → at ≤ limit
+      by zero q = omega (arith, q, h)
+      by (suc d) q = omega (arith, l .far (omega (arith, q)))
+
+  module _ (p : ℕ) {e : NameRead} (inv : Reading s at limit p e) where
+    pub read-past : limit ≤ p → NameRead.Wrong ≡ e
+    read-past h = by (at + 33 - p) refl
+      where
+        by : (d : ℕ) → d ≡ at + 33 - p → NameRead.Wrong ≡ e
+        by zero q = inv .long (omega (arith, q, inv .bound, l .near))
+        by (suc d) q = name-past s at (p - at) p (inv .word (omega (arith, q))) (over (length s - limit) refl)
+          where
+            over : (d : ℕ) → d ≡ length s - limit → length s ≤ p
+            over zero k = omega (arith, k, h)
+            over (suc d) k = absurd (omega (arith, l .far (omega (arith, k)), q, h))
+
+    module _ (h : p < limit) {r : Bool} (q : r ≡ isWord (getD s p 0)) where
+      in-record : p < length s
+      in-record = omega (arith, l .inside)
+
+      near-name : p < at + 33
+      near-name = omega (arith, l .near)
+
+      pub read-newline : not r ≡ true → getD s p 0 ≡ 10 → NameRead.Is (partOf at p) (p + 1) ≡ e
+      read-newline k n10 = name-end s at (p - at) p (inv .word near-name) in-record n10
+
+      pub read-other : not r ≡ true → (getD s p 0 ≡ 10 → ⊥) → NameRead.Wrong ≡ e
+      read-other k n10 = by (32 - (p - at)) refl
+        where
+          by : (d : ℕ) → d ≡ 32 - (p - at) → NameRead.Wrong ≡ e
+          by zero z = name-long s at (p - at) p (inv .word near-name) in-record n10 (omega (arith, z, near-name, inv .start))
+          by (suc d) z =
+              name-other s at (p - at) p (inv .word near-name) in-record n10 (λ m. absurd (omega (arith, m, z))) q k
+
+      pub read-turn : not r ≡ false → Reading s at limit (p + 1) e
+      read-turn k = record {
+        start = omega (arith, inv .start);
+        bound = omega arith;
+        word =
+            λ m. ap (λ (n : ℕ). wordOf (drop (p + 1) s) at n (p + 1)) (let z : p + 1 - at ≡ p - at + 1 = omega (arith, inv .start) in z)
+            ∙ name-turn s at (p - at) p (inv .word near-name) in-record other (λ z. absurd (omega (arith, z, m, inv .start))) q k;
+        long = λ m. name-long s at (p - at) p (inv .word near-name) in-record other (omega (arith, m, inv .start));
+      }
+        where
+          other : getD s p 0 ≡ 10 → ⊥
+          other = word-newline (sym q ∙ not-false r k)
 
 -- ---- a forbidden name
 
@@ -117,6 +191,6 @@ module _ (s : List ℕ) (at : ℕ) {r : Bool} (q : r ≡ isForbidden s at) where
   unfolding nameAt
   name-free h k = rw (sym q ∙ h, nameAt) k
 
-pub ruleset words = (name-past, name-end, name-long, name-other, first-past, first-digit, first-end)
+pub ruleset words = (read-past, read-newline, read-other, first-past, first-digit, first-end)
 
 pub ruleset forbidden = (line-past, line-end, line-other, some-past, some-other, forbidden-span, forbidden-output, forbidden-not, forbidden-chunk, name-forbidden, name-free)

@@ -6,22 +6,30 @@ use definitions::NameRead;
 use definitions::NumberRead;
 use definitions::Part;
 ghost use mathlib.Core.Path.{_≡_};
+ghost use Prim.Native.Nat.{_≤_};
 ghost use lib.ListN.{drop};
 ghost use Rattle.definitions.specs.Bytes.{isDigit, isWord, same, part as partText};
 ghost use Rattle.definitions.specs.Record.{keyAt, numberAt, someDigits, isForbidden, nameOf, nameAt};
 ghost use Rattle.definitions.specs.Sizes.{sameName, isPayloadId};
 ghost use Rattle.names.specs.Written.{fieldName, nameText};
+ghost use Rattle.names.specs.Limits.{Limit};
 
-// A fixed text at a place: the place behind it.
+// A fixed text at a place: the place behind it. Whether the record is long enough is tested once.
 pub fn key_at(rec: &[u8], at: usize, key: &[u8]) -> Found
     ensures { λ r. ⌜ r ≡ keyAt (now (rec .entry)) at (now (key .entry)) ⌝ }
 {
+    if key.len() == 0 {
+        return Found::At(at);
+    }
+    if rec.len() <= at {
+        return Found::Nothing;
+    }
+    if rec.len() - at < key.len() {
+        return Found::Nothing;
+    }
     let mut p = at;
     let mut i = 0;
     while i < key.len() {
-        if rec.len() <= p {
-            return Found::Nothing;
-        }
         if rec[p] != key[i] {
             return Found::Nothing;
         }
@@ -146,6 +154,17 @@ fn is_forbidden(rec: &[u8], at: usize) -> bool
     some_digits(rec, p)
 }
 
+// Where a name at a place must have ended: 33 bytes on, or at the record's end.
+fn name_limit(n: usize, at: usize) -> usize
+    requires { ⌜ at ≤ n ⌝ }
+    ensures { λ r. ⌜ Limit n at r ⌝ }
+{
+    if n - at <= 33 {
+        return n;
+    }
+    at + 33
+}
+
 // 1 to 32 bytes up to the newline, letters, digits and `_`, no digit first.
 fn name_of(rec: &[u8], at: usize) -> NameRead
     ensures { λ r. ⌜ r ≡ nameOf (drop at (now (rec .entry))) at ⌝ }
@@ -160,20 +179,16 @@ fn name_of(rec: &[u8], at: usize) -> NameRead
     if first == 10 {
         return NameRead::Wrong;
     }
-    let mut n: usize = 0;
+    let limit = name_limit(rec.len(), at);
     let mut p = at;
-    while p < rec.len() {
+    while p < limit {
         let b = rec[p];
-        if b == 10 {
-            return NameRead::Is(Part { start: at, end: p }, p + 1);
-        }
-        if n == 32 {
-            return NameRead::Wrong;
-        }
         if !is_word(b) {
+            if b == 10 {
+                return NameRead::Is(Part { start: at, end: p }, p + 1);
+            }
             return NameRead::Wrong;
         }
-        n += 1;
         p += 1;
     }
     NameRead::Wrong

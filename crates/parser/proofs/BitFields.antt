@@ -3,8 +3,9 @@
 use mathlib.Core.Bool.{Bool, true, false}
 use mathlib.Core.List.{List}
 use mathlib.Core.Path.{_≡_, refl, sym, ap, _∙_, subst}
-use Prim.Native.Nat.{ℕ, _+_, _<_, _^_}
+use Prim.Native.Nat.{ℕ, _+_, _%_, _<_, _^_}
 use native.Mathlib.Omega.{arith}
+use lib.ListN.{length}
 use Rattle.definitions.specs.Bytes.{Text, text}
 use Rattle.definitions.specs.Sizes.{Row, Annotated, annotateField}
 use Rattle.definitions.specs.Refusals.{staticBits, staticSum}
@@ -22,10 +23,12 @@ use Rattle.stream.specs.Stream.{ahead, runBits, widthOf, stream}
 use Rattle.stream.specs.Stream as flow
 use Rattle.bit_fields.specs.declared.KindAt.{KindAt}
 use Rattle.bit_fields.specs.Kinds.{kindIn}
+use Rattle.chunk_lines.specs.declared.Held.{Held}
 use Rattle.chunk_lines.proofs.Fields.{bits-length}
 use Rattle.chunks.specs.declared.State.{State}
 use Rattle.chunks.specs.declared.Step.{Step}
-use Rattle.chunks.specs.Steps.{Long, Advance, bitAdvance, Ready, BitParsed}
+use Rattle.chunks.specs.Steps.{Long, grownState, grownKinds, Advance, bitAdvance, Closing, ChunkClosed, Ready, BitParsed}
+use Rattle.chunks.proofs.Bits.{stays-open, closing, closes}
 use Rattle.chunks.proofs.Advances.{onVerdict, advance, bit-advances}
 use Rattle.chunks.proofs.Within.{Within, within-bit, within-ready, run-below}
 use Rattle.conditions.specs.IfNames.{condNames}
@@ -33,14 +36,22 @@ use Rattle.field_kinds.specs.KindOf.{kindAt}
 use Rattle.field_kinds.proofs.Agree.{kinds-agree}
 use Rattle.emits.specs.Target.{rowsOf, fieldsOf, settingAt, restAt, fieldIn, annotatedAt}
 use Rattle.emits.proofs.Rests.{rest-step}
-use Rattle.runs.specs.Counted.{laterBits}
 use Rattle.runs.proofs.Later.{later-below, advance-later}
-use Rattle.parser.specs.Driver.{seen, Going, Turn, from, Parsed}
+use Rattle.parser.specs.Driver.{seen, Going, Turn, laterAt, from, Parsed}
 
 same-bits : (z : Size) → staticWidth z ≡ staticBits z
 same-bits (Size.Static bits) = refl
 same-bits Size.Dynamic = refl
 same-bits Size.Unknown = refl
+
+-- `close`, with the later bits as the code has them
+module _ (m : Arrays) (s : Text) (order : EndiannessValue) (t : State) (kinds : List Held) {later x : ℕ} (e : later ≡ x) where
+  pub closing-with : Closing m s (text "payload") t kinds x → Closing m s (text "payload") t kinds later
+  closing-with z = subst (Closing m s (text "payload") t kinds) (sym e) z
+
+  pub closed-with : {out left : Text} {at : ℕ} {r : Step} → ChunkClosed m s (text "payload") order t kinds later out at r left
+      → ChunkClosed m s (text "payload") order t kinds x out at r left
+  closed-with {out} {left} {at} {r} d = subst (λ (y : ℕ). ChunkClosed m s (text "payload") order t kinds y out at r left) e d
 
 module _ (s places own parents payloads fields : List ℕ) (i n : ℕ) where
   abbrev rest : ℕ → List Annotated
@@ -65,6 +76,18 @@ module _ (s places own parents payloads fields : List ℕ) (i n : ℕ) where
     pub is-bit-no : b ≡ false → {a : Field} → f ≡ a → isBit (settingAt s places own parents payloads fields i n order m) a ≡ false
     is-bit-no h e = ap (isBit (settingAt s places own parents payloads fields i n order m)) (sym e) ∙ sym (eb own parents payloads fields n order m) ∙ h
 
+  -- the width, by the field's size
+  module _ (k : ℕ) {f : Field} (ef : f ≡ fieldIn s places own parents payloads fields i n k) {z : Size} (ez : z ≡ annotateField s rows all f) {x : ℕ} (ex : x ≡ staticWidth z)
+      (t : State) where
+    width : x ≡ widthOf (here k)
+    width = ex ∙ ap staticWidth (ez ∙ ap (annotateField s rows all) ef)
+
+    pub width-fits : t .shift + widthOf (here k) < 2 ^ 64 → t .shift + x < 2 ^ 64
+    width-fits h = omega (arith, width, h)
+
+    pub width-grows : {u : State} → u ≡ grownState t x → u ≡ grownState t (widthOf (here k))
+    width-grows e = e ∙ ap (grownState t) width
+
   module _ (order : EndiannessValue) (m : Arrays) (k : ℕ) where
     abbrev c : Setting
     c = settingAt s places own parents payloads fields i n order m
@@ -73,94 +96,119 @@ module _ (s places own parents payloads fields : List ℕ) (i n : ℕ) where
     unfolding staticSum
     sums h = ap staticSum (rest-step s places own parents payloads fields i n k h) ∙ ap (λ (w : ℕ). w + staticSum (rest (k + 1))) (sym (same-bits (here k .fieldSize)))
 
-    pub within : (t : State) → Going s places own parents payloads fields i n m k t → Within (seen m s t) k (t .shift)
-    within t g = record {
-      fields = omega (arith, g .few, bits-length m s (text "payload") (t .chunk) (t .kinds) (t .chunk .len));
+    pub within : (t : State) (kinds : List Held) → Going s places own parents payloads fields i n m k t kinds → Within (seen m s t kinds) k (t .shift)
+    within t kinds g = record {
+      fields = omega (arith, g .few, bits-length m s (text "payload") (t .chunk) kinds (t .chunk .len));
       sum = g .sum;
       shifts = omega arith;
       chunks = g .numbers;
     }
 
     -- and back, at the next field
-    pub going-by : (t : State) {bits : ℕ} → Within (seen m s t) (k + 1) bits → bits + staticSum (rest (k + 1)) < 2 ^ 31 → Long t
-        → Going s places own parents payloads fields i n m (k + 1) t
-    going-by t w fits long = record {
-      few = omega (arith, w .fields, bits-length m s (text "payload") (t .chunk) (t .kinds) (t .chunk .len));
+    pub going-by : (t : State) (kinds : List Held) {bits : ℕ} → Within (seen m s t kinds) (k + 1) bits → bits + staticSum (rest (k + 1)) < 2 ^ 31
+        → Long t kinds → Going s places own parents payloads fields i n m (k + 1) t kinds
+    going-by t kinds w fits long = record {
+      few = omega (arith, w .fields, bits-length m s (text "payload") (t .chunk) kinds (t .chunk .len));
       numbers = w .chunks;
       sum = w .sum;
       fits = omega (arith, w .shifts);
       long = long;
     }
 
-    module _ {f : Field} (ef : f ≡ fieldIn s places own parents payloads fields i n k) {z : Size} (ez : z ≡ annotateField s rows all f) {w : ℕ} (ew : w ≡ staticWidth z) where
-      width : w ≡ widthOf (here k)
-      width = ew ∙ ap staticWidth (ez ∙ ap (annotateField s rows all) ef)
+    abbrev w : ℕ
+    w = widthOf (here k)
 
-      module _ {t : State} (turn : Turn s places own parents payloads fields i n m k t) where
-        h : k < n
-        h = turn .inside
+    -- what `grow` and `close` ask
+    module _ {t : State} {kinds : List Held} (turn : Turn s places own parents payloads fields i n m k t kinds) where
+      h : k < n
+      h = turn .inside
 
-        g : Going s places own parents payloads fields i n m k t
-        g = turn .going
+      g : Going s places own parents payloads fields i n m k t kinds
+      g = turn .going
 
-        -- the chunk's bits fit
-        pub sum-fits : t .shift + w < 2 ^ 64
-        sum-fits = omega (arith, width, sums h, g .fits)
+      abbrev later : ℕ
+      later = laterAt s places own parents payloads fields i n order m k (grownState t w)
 
-        module _ {later : ℕ} (el : later ≡ laterBits (t .pending) (t .shift + w) (runBits c (rest (k + 1)))) where
-          pub bit-ready : Ready m s (text "payload") t w later
-          bit-ready =
-              within-ready m s (text "payload") t k (t .shift) w later (within t g) (g .long) (omega (arith, h, turn .bounded))
-              (omega (
-                arith,
-                width,
-                sums h,
-                g .fits,
-                el,
-                later-below (t .pending) (t .shift + w) (runBits c (rest (k + 1))),
-                run-below c (rest (k + 1)),
-              ))
+      pub room : t .chunk .len < 64
+      room = omega (arith, h, turn .bounded, g .few)
 
-          module _ {names : List Part} (en : names ≡ condNames all) {kind : KindAt}
-              (ek : (own parents payloads : List ℕ) → kind ≡ kindAt s (rowsFrom s places own parents payloads 0 i) names (f .desc)) where
-            kind-is : kindIn m s (text "payload") kind ≡ kindOf c (here k .field .desc)
-            kind-is =
-                ap (kindIn m s (text "payload")) (ek own parents payloads ∙ ap (λ (names : List Part). kindAt s rows names (f .desc)) en)
-                ∙ kinds-agree c (f .desc)
-                ∙ ap (λ (x : Field). kindOf c (x .desc)) ef
+      pub sum-fits : t .shift + w < 2 ^ 64
+      sum-fits = omega (arith, sums h, g .fits)
 
-            abbrev step : Advance
-            step = advance c (here k) (rest (k + 1)) (seen m s t)
+      bit-ready : Ready m s (text "payload") t kinds w later
+      bit-ready =
+          within-ready m s (text "payload") t kinds k (t .shift) w later (within t kinds g) (g .long) (omega (arith, h, turn .bounded))
+          (omega (
+            arith,
+            sums h,
+            g .fits,
+            later-below (t .pending) (t .shift + w) (runBits c (rest (k + 1))),
+            run-below c (rest (k + 1)),
+          ))
 
-            advances : bitAdvance order (seen m s t) (kindIn m s (text "payload") kind) w later ≡ step
-            advances =
-                ap (λ (x : Kind). bitAdvance order (seen m s t) x w later) kind-is
-                ∙ ap (bitAdvance order (seen m s t) (kindOf c (here k .field .desc)) w) el
-                ∙ advance-later order (kindOf c (here k .field .desc)) w (runBits c (rest (k + 1))) (seen m s t)
-                ∙ ap (λ (x : ℕ). bitAdvance order (seen m s t) (kindOf c (here k .field .desc)) x (runBits c (rest (k + 1)))) width
+      module _ (kind : KindAt) {u : State} (eu : u ≡ grownState t w) where
+        pub bit-closing : Closing m s (text "payload") u (grownKinds t kinds kind) (laterAt s places own parents payloads fields i n order m k u)
+        bit-closing =
+            subst (λ (x : State). Closing m s (text "payload") u (grownKinds t kinds kind) (laterAt s places own parents payloads fields i n order m k x))
+            (sym eu) (closing m s (text "payload") order t kinds kind w later bit-ready eu)
 
-            pub bit-parsed : isBit c f ≡ true → {out left : Text} {at : ℕ} {r : Step} → BitParsed m s (text "payload") order t kind w later out at r left
-                → Parsed s places own parents payloads fields i n order m k t out at r left
-            bit-parsed eb {out} {left} {at} {r} d =
-                let v : r .verdict ≡ step .verdict = d .verdict-is ∙ ap (λ (x : Advance). x .verdict) advances in
-                let u : seen m s (r .state) ≡ step .after = d .after ∙ ap (λ (x : Advance). x .after) advances in
-                let e : from s places own parents payloads fields i n order m k k t
-                ≡ onVerdict (step .verdict) (ahead (step .lines) (stream c (step .after) (rest (k + 1)))) =
-                ap (stream c (seen m s t)) (rest-step s places own parents payloads fields i n k h)
-                ∙ bit-advances c (here k) (rest (k + 1)) (seen m s t) (ap (isBit c) (sym ef) ∙ eb) in
-                let g₁ : Within (seen m s (r .state)) (k + 1) (t .shift + widthOf (here k)) =
-                subst (λ (x : flow.State). Within x (k + 1) (t .shift + widthOf (here k))) (sym u)
-                (within-bit order (seen m s t) (kindOf c (here k .field .desc)) (widthOf (here k)) (runBits c (rest (k + 1))) k (t .shift) (within t g)) in
-                record {
-                  lines = step .lines;
-                  wrote = like (ap (λ (x : Advance). x .lines) advances) (d .wrote);
-                  passes =
-                      λ p. e
-                      ∙ ap (λ (x : Verdict). onVerdict x (ahead (step .lines) (stream c (step .after) (rest (k + 1))))) (sym v ∙ p)
-                      ∙ ap (λ (x : flow.State). ahead (step .lines) (stream c x (rest (k + 1)))) (sym u);
-                  stops =
-                      λ why p. e
-                      ∙ ap (λ (x : Verdict). onVerdict x (ahead (step .lines) (stream c (step .after) (rest (k + 1))))) (sym v ∙ p);
-                  going =
-                      λ p. going-by (r .state) g₁ (omega (arith, sums h, g .fits)) (d .long);
-                }
+        -- what the field comes to
+        module _ {f : Field} (ef : f ≡ fieldIn s places own parents payloads fields i n k) (eb : isBit c f ≡ true) {names : List Part}
+            (en : names ≡ condNames all) (ek : (own parents payloads : List ℕ) → kind ≡ kindAt s (rowsFrom s places own parents payloads 0 i) names (f .desc)) where
+          kind-is : kindIn m s (text "payload") kind ≡ kindOf c (here k .field .desc)
+          kind-is =
+              ap (kindIn m s (text "payload")) (ek own parents payloads ∙ ap (λ (names : List Part). kindAt s rows names (f .desc)) en)
+              ∙ kinds-agree c (f .desc)
+              ∙ ap (λ (x : Field). kindOf c (x .desc)) ef
+
+          abbrev step : Advance
+          step = advance c (here k) (rest (k + 1)) (seen m s t kinds)
+
+          advances : bitAdvance order (seen m s t kinds) (kindIn m s (text "payload") kind) w later ≡ step
+          advances =
+              ap (λ (x : Kind). bitAdvance order (seen m s t kinds) x w later) kind-is
+              ∙ advance-later order (kindOf c (here k .field .desc)) w (runBits c (rest (k + 1))) (seen m s t kinds)
+
+          bit-parsed : {out left : Text} {at : ℕ} {r : Step} {held : List Held} → BitParsed m s (text "payload") order t kinds kind w later out at r held left
+              → Parsed s places own parents payloads fields i n order m k t kinds out at r held left
+          bit-parsed {out} {left} {at} {r} {held} d =
+              let v : r .verdict ≡ step .verdict = d .verdict-is ∙ ap (λ (x : Advance). x .verdict) advances in
+              let a : r .verdict ≡ Verdict.Pass → seen m s (r .state) held ≡ step .after = λ p. d .after p ∙ ap (λ (x : Advance). x .after) advances in
+              let e : from s places own parents payloads fields i n order m k k t kinds
+              ≡ onVerdict (step .verdict) (ahead (step .lines) (stream c (step .after) (rest (k + 1)))) =
+              ap (stream c (seen m s t kinds)) (rest-step s places own parents payloads fields i n k h)
+              ∙ bit-advances c (here k) (rest (k + 1)) (seen m s t kinds) (ap (isBit c) (sym ef) ∙ eb) in
+              record {
+                lines = step .lines;
+                wrote = like (ap (λ (x : Advance). x .lines) advances) (d .wrote);
+                passes =
+                    λ p. e
+                    ∙ ap (λ (x : Verdict). onVerdict x (ahead (step .lines) (stream c (step .after) (rest (k + 1))))) (sym v ∙ p)
+                    ∙ ap (λ (x : flow.State). ahead (step .lines) (stream c x (rest (k + 1)))) (sym (a p));
+                stops =
+                    λ why p. e
+                    ∙ ap (λ (x : Verdict). onVerdict x (ahead (step .lines) (stream c (step .after) (rest (k + 1))))) (sym v ∙ p);
+                going =
+                    λ p. going-by (r .state) held
+                    (subst (λ (x : flow.State). Within x (k + 1) (t .shift + w)) (sym (a p))
+                    (within-bit order (seen m s t kinds) (kindOf c (here k .field .desc)) w (runBits c (rest (k + 1))) k (t .shift) (within t kinds g)))
+                    (omega (arith, sums h, g .fits)) (d .long);
+              }
+
+          -- its chunk stays open
+          pub bit-grows : (out : Text) (at : ℕ) → (u .shift % 8 ≡ 0 → ⊥) → length out < 2 ^ 63
+              → Parsed s places own parents payloads fields i n order m k t kinds out at (record { verdict = Verdict.Pass; at = at; state = u })
+              (grownKinds t kinds kind) out
+          bit-grows out at o l = bit-parsed (stays-open m s (text "payload") order t kinds kind w later bit-ready eu out at o l)
+
+          -- its chunk closes
+          pub bit-closes : u .shift % 8 ≡ 0 → {out left : Text} {at : ℕ} {r : Step}
+              → ChunkClosed m s (text "payload") order u (grownKinds t kinds kind) (laterAt s places own parents payloads fields i n order m k u) out at r left
+              → Parsed s places own parents payloads fields i n order m k t kinds out at r (grownKinds t kinds kind) left
+          bit-closes o {out} {left} {at} {r} d =
+              bit-parsed
+              (closes m s (text "payload") order t kinds kind w later bit-ready eu o
+              (subst
+              (λ (x : State).
+              ChunkClosed m s (text "payload") order u (grownKinds t kinds kind) (laterAt s places own parents payloads fields i n order m k x) out at r left)
+              eu d))

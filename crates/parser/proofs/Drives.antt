@@ -4,7 +4,7 @@ use mathlib.Core.List.{List, [], _++_, append-assoc, append-nil}
 use mathlib.Core.Path.{_≡_, refl, sym, ap, _∙_, subst}
 use Prim.Native.Nat.{ℕ, _+_, _≤_, _<_, _^_}
 use native.Mathlib.Omega.{arith}
-use lib.ListN.{length}
+use lib.ListN.{length, replicate}
 use Rattle.definitions.specs.Bytes.{Text, text}
 use Rattle.definitions.specs.Sizes.{Annotated}
 use Rattle.definitions.specs.Blocks.{widths}
@@ -18,6 +18,8 @@ use Rattle.text.proofs.Puts.{chain, still, like, kept}
 use Rattle.stream.specs.Stream.{Result, refuses, writes, ahead, rendered, fresh, stream}
 use Rattle.stream.specs.Stream as flow
 use Rattle.stream.proofs.Same.{streamed}
+use Rattle.bit_fields.specs.declared.KindAt.{KindAt}
+use Rattle.chunk_lines.specs.declared.Held.{Held}
 use Rattle.chunks.specs.declared.State.{State}
 use Rattle.chunks.specs.declared.Checked.{Checked}
 use Rattle.chunks.specs.declared.Step.{Step}
@@ -27,7 +29,7 @@ use Rattle.emits.specs.Target.{settingAt, restAt, Fine}
 use Rattle.emits.proofs.Rests.{rest-end}
 use Rattle.runs.proofs.Rests.{sum-fine}
 use Rattle.parser.specs.declared.Lowered.{Lowered}
-use Rattle.parser.specs.Driver.{seen, Going, Parsed, doneBy, Lowers}
+use Rattle.parser.specs.Driver.{seen, Going, Turn, Parsed, doneBy, Lowers}
 use Rattle.parser.proofs.Others.{nothing-ahead}
 
 ahead-ahead : (s t : Text) (r : Result) → ahead s (ahead t r) ≡ ahead (s ++ t) r
@@ -53,27 +55,30 @@ module _ (s places own parents payloads fields : List ℕ) (i n : ℕ) (order : 
   rest = restAt s places own parents payloads fields i n
 
   -- the stream from a state on
-  abbrev left : ℕ → State → Result
-  left k t = stream c (seen m s t) (rest k)
+  abbrev left : ℕ → State → List Held → Result
+  left k t kinds = stream c (seen m s t kinds) (rest k)
 
   -- before field k: what is written, and then what is left
-  pub record Run (out : Text) (p k : ℕ) (t : State) : Type 0 where
+  pub record Run (out : Text) (p k : ℕ) (t : State) (kinds : List Held) : Type 0 where
     pub lines : Text
     pub wrote : Put out₀ at lines p out
     pub same : length out ≡ length out₀
-    pub goes : stream c fresh (rest 0) ≡ ahead lines (left k t)
-    pub going : Going s places own parents payloads fields i n m k t
+    pub goes : stream c fresh (rest 0) ≡ ahead lines (left k t kinds)
+    pub going : Going s places own parents payloads fields i n m k t kinds
 
-  pub run-start : Fine s places own parents payloads fields i n → {t : State} → t ≡ newState → length out₀ < 2 ^ 63 → Run out₀ at 0 t
-  run-start fine e room = subst (Run out₀ at 0) (sym e) (record {
+  abbrev none : List Held
+  none = replicate 64 (record { kind = KindAt.Reserved })
+
+  pub run-start : Fine s places own parents payloads fields i n → {t : State} → t ≡ newState → length out₀ < 2 ^ 63 → Run out₀ at 0 t none
+  run-start fine e room = subst (λ (x : State). Run out₀ at 0 x none) (sym e) (record {
     lines = [];
     wrote = still out₀ at room;
     same = refl;
-    goes = ap (λ (x : flow.State). stream c x (rest 0)) (sym (new-view m s (text "payload"))) ∙ nothing-ahead (left 0 newState);
+    goes = ap (λ (x : flow.State). stream c x (rest 0)) (sym (new-view m s (text "payload") none)) ∙ nothing-ahead (left 0 newState none);
     going = record {
       few = omega arith;
       numbers = omega arith;
-      sum = ap (λ (x : flow.State). widths (x .chunk)) (sym (new-view m s (text "payload")));
+      sum = ap (λ (x : flow.State). widths (x .chunk)) (sym (new-view m s (text "payload") none));
       fits = omega (arith, sum-fine s places own parents payloads fields i n fine 0 (omega arith));
       long = new-long;
     };
@@ -85,9 +90,16 @@ module _ (s places own parents payloads fields : List ℕ) (i n : ℕ) (order : 
   ends : (r : Lowered) (out : Text) {x : Result} → stream c fresh (rest 0) ≡ x → Lowers x out₀ at r out → Ends r out
   ends r out e d = subst (λ (x : Result). Lowers x out₀ at r out) (sym (streamed c (rest 0) ∙ e)) d
 
-  module _ (out : Text) (p k : ℕ) (t : State) (run : Run out p k t) where
+  module _ (out : Text) (p k : ℕ) (t : State) (kinds : List Held) (run : Run out p k t kinds) where
+    -- field k comes next
+    pub run-ready : (n ≤ 64) × Fine s places own parents payloads fields i n → k < n → Turn s places own parents payloads fields i n m k t kinds
+    run-ready z h = record { inside = h; bounded = z .0; fine = z .1; going = run .going }
+
+    pub run-room : length out < 2 ^ 63
+    run-room = omega (arith, run .same, run .wrote .room)
+
     -- `done`
-    finished : (v : Verdict) → left k t ≡ onVerdict v (writes []) → Ends (doneBy v at p) out
+    finished : (v : Verdict) → left k t kinds ≡ onVerdict v (writes []) → Ends (doneBy v at p) out
     finished Verdict.Pass e =
         ends (doneBy Verdict.Pass at p) out (run .goes ∙ ap (ahead (run .lines)) e) (record { verdict-is = refl; wrote = like (sym (append-nil (run .lines))) (run .wrote) })
     finished (Verdict.Refuse why) e =
@@ -99,19 +111,22 @@ module _ (s places own parents payloads fields : List ℕ) (i n : ℕ) (order : 
     run-done h r e =
         subst (λ (x : Lowered). Ends x out) (sym e)
         (finished (codeChecked t .verdict)
-        (ap (stream c (seen m s t)) (rest-end s places own parents payloads fields i n k h) ∙ code-flushes m s (text "payload") t (writes [])))
+        (ap (stream c (seen m s t kinds)) (rest-end s places own parents payloads fields i n k h) ∙ code-flushes m s (text "payload") t kinds (writes [])))
 
-    module _ {q : Step} {next : Text} (d : Parsed s places own parents payloads fields i n order m k t out p q next) where
+    module _ {q : Step} {held : List Held} {next : Text} (d : Parsed s places own parents payloads fields i n order m k t kinds out p q held next) where
       pub run-stop : {why : Refusal} → q .verdict ≡ Verdict.Refuse why → Ends (record { verdict = Verdict.Refuse why; at = at }) next
       run-stop {why} e =
           ends (record { verdict = Verdict.Refuse why; at = at }) next (run .goes ∙ ap (ahead (run .lines)) (d .stops why e))
           (record { verdict-is = refl; at-is = refl; lines = run .lines ++ d .lines; behind = q .at; wrote = chain (run .wrote) (d .wrote) })
 
-      pub run-turn : q .verdict ≡ Verdict.Pass → Run next (q .at) (k + 1) (q .state)
+      pub run-kept : length next ≡ length out₀
+      run-kept = kept (d .wrote) ∙ run .same
+
+      pub run-turn : q .verdict ≡ Verdict.Pass → Run next (q .at) (k + 1) (q .state) held
       run-turn e = record {
         lines = run .lines ++ d .lines;
         wrote = chain (run .wrote) (d .wrote);
         same = kept (d .wrote) ∙ run .same;
-        goes = run .goes ∙ ap (ahead (run .lines)) (d .passes e) ∙ ahead-ahead (run .lines) (d .lines) (left (k + 1) (q .state));
+        goes = run .goes ∙ ap (ahead (run .lines)) (d .passes e) ∙ ahead-ahead (run .lines) (d .lines) (left (k + 1) (q .state) held);
         going = d .going e;
       }

@@ -19,6 +19,7 @@ use Rattle.text.proofs.Puts.{still}
 use Rattle.stream.specs.Stream.{Result, refuses, writes, ahead, blockText, emitting, calm, stream}
 use Rattle.stream.specs.Stream as flow
 use Rattle.stream.proofs.Steps.{stream-no}
+use Rattle.chunk_lines.specs.declared.Held.{Held}
 use Rattle.chunks.specs.declared.State.{State}
 use Rattle.chunks.specs.declared.Checked.{Checked}
 use Rattle.chunks.specs.Steps.{Long, codeChecked}
@@ -91,26 +92,27 @@ module _ (s places own parents payloads fields : List ℕ) (i n : ℕ) where
 
     -- ---- behind `check_code`
 
-    module _ {t : State} (turn : Turn s places own parents payloads fields i n m k t)
-        (eb : isBit c (fieldIn s places own parents payloads fields i n k) ≡ false) {q : Checked} (ec : q ≡ codeChecked t) where
+    module _ {t : State}
+        (eb : isBit c (fieldIn s places own parents payloads fields i n k) ≡ false) {q : Checked} (ec : q ≡ codeChecked t) (kinds : List Held)
+        (turn : Turn s places own parents payloads fields i n m k t kinds) where
       abbrev next : Result
-      next = stream c (calm (seen m s t)) (rest (k + 1))
+      next = stream c (calm (seen m s t kinds)) (rest (k + 1))
 
-      streams : {v : Verdict} → q .verdict ≡ v → from s places own parents payloads fields i n order m k k t
+      streams : {v : Verdict} → q .verdict ≡ v → from s places own parents payloads fields i n order m k k t kinds
           ≡ onVerdict v (emitting (emits s places own parents payloads fields i n order m k (t .shift)) next)
       streams e =
-          ap (stream c (seen m s t)) (rest-step s places own parents payloads fields i n k (turn .inside))
-          ∙ stream-no c (here k) (rest (k + 1)) (seen m s t) eb
-          ∙ code-flushes m s (text "payload") t (emitting (emits s places own parents payloads fields i n order m k (t .shift)) next)
+          ap (stream c (seen m s t kinds)) (rest-step s places own parents payloads fields i n k (turn .inside))
+          ∙ stream-no c (here k) (rest (k + 1)) (seen m s t kinds) eb
+          ∙ code-flushes m s (text "payload") t kinds (emitting (emits s places own parents payloads fields i n order m k (t .shift)) next)
           ∙ ap (λ (x : Verdict). onVerdict x (emitting (emits s places own parents payloads fields i n order m k (t .shift)) next))
           (ap (λ (x : Checked). x .verdict) (sym ec) ∙ e)
 
-      calmed : q .verdict ≡ Verdict.Pass → seen m s (q .state) ≡ calm (seen m s t)
-      calmed e = ap (λ (x : Checked). seen m s (x .state)) ec ∙ code-calms m s (text "payload") t (ap (λ (x : Checked). x .verdict) (sym ec) ∙ e)
+      calmed : q .verdict ≡ Verdict.Pass → seen m s (q .state) kinds ≡ calm (seen m s t kinds)
+      calmed e = ap (λ (x : Checked). seen m s (x .state) kinds) ec ∙ code-calms m s (text "payload") t kinds (ap (λ (x : Checked). x .verdict) (sym ec) ∙ e)
 
       -- 10
       pub other-open : {why : Refusal} → q .verdict ≡ Verdict.Refuse why → (out : Text) (at : ℕ) → length out < 2 ^ 63
-          → Parsed s places own parents payloads fields i n order m k t out at (record { verdict = Verdict.Refuse why; at = at; state = q .state }) out
+          → Parsed s places own parents payloads fields i n order m k t kinds out at (record { verdict = Verdict.Refuse why; at = at; state = q .state }) kinds out
       other-open {why} e out at room = record {
         lines = [];
         wrote = still out at room;
@@ -121,7 +123,7 @@ module _ (s places own parents payloads fields : List ℕ) (i n : ℕ) where
 
       pub other-goes : q .verdict ≡ Verdict.Pass → {out left : Text} {at : ℕ} {r : Lowered}
           → Emitted s places own parents payloads fields i n order m k (t .shift) out at r left
-          → Parsed s places own parents payloads fields i n order m k t out at (record { verdict = r .verdict; at = r .at; state = q .state }) left
+          → Parsed s places own parents payloads fields i n order m k t kinds out at (record { verdict = r .verdict; at = r .at; state = q .state }) kinds left
       other-goes e {r = r} d = record {
         lines = d .lines;
         wrote = d .wrote;
@@ -130,9 +132,9 @@ module _ (s places own parents payloads fields : List ℕ) (i n : ℕ) where
             ∙ ap (λ (x : flow.State). ahead (d .lines) (stream c x (rest (k + 1)))) (sym (calmed e));
         stops = λ why p. streams e ∙ d .stops why p next;
         going =
-            λ p. going-by s places own parents payloads fields i n order m k (q .state)
+            λ p. going-by s places own parents payloads fields i n order m k (q .state) kinds
             (subst (λ (x : flow.State). Within x (k + 1) (t .shift)) (sym (calmed e))
-            (within-calm (seen m s t) k (t .shift) (within s places own parents payloads fields i n order m k t (turn .going))))
+            (within-calm (seen m s t kinds) k (t .shift) (within s places own parents payloads fields i n order m k t kinds (turn .going))))
             (omega (arith, sums s places own parents payloads fields i n order m k (turn .inside), turn .going .fits))
-            (subst (λ (x : Checked). Long (x .state)) (sym ec) (code-long t (turn .going .long)));
+            (subst (λ (x : Checked). Long (x .state) kinds) (sym ec) (code-long t kinds (turn .going .long)));
       }

@@ -1,7 +1,9 @@
 // The driver of `FieldParser` (cxx.rs): `new`, `parse` for each field of the target in order, and `done`. A run's check is written before its first
 // chunk, with the total found by looking ahead over the widths (crate runs); that the lines are those of cxx.rs is the law of crate stream.
 // The target has the index i: its fields are the n that the table has from 64 i on, types are looked up in the i rows before. The `if` names of its
-// fields are gathered once (crate conditions).
+// fields are gathered once (crate conditions). The kinds of the open chunk's fields are the loop's own: a chunk takes them where it closes.
+use bit_fields::KindAt;
+use chunk_lines::Held;
 use chunks::State;
 use chunks::Step;
 use definitions::Arrays;
@@ -11,12 +13,13 @@ use definitions::Verdict;
 use emits::EmitAt;
 ghost use mathlib.Core.Path.{_≡_};
 ghost use mathlib.Core.Bool.{true, false};
-ghost use Prim.Native.Nat.{_+_, _≤_, _<_};
+ghost use Prim.Native.Nat.{_+_, _≤_, _<_, _^_};
+ghost use Rattle.definitions.specs.Bytes.{text};
 ghost use Rattle.definitions.specs.FieldParser.{isBit, lowerFields};
-ghost use Rattle.stream.specs.Stream.{rendered};
-ghost use Rattle.chunks.specs.Steps.{codeChecked};
-ghost use Rattle.emits.specs.Target.{settingAt, restAt, fieldIn, Fine};
-ghost use Rattle.parser.specs.Driver.{Named, Turn, Emitted, Parsed, doneBy, Lowers};
+ghost use Rattle.stream.specs.Stream.{widthOf, rendered};
+ghost use Rattle.chunks.specs.Steps.{grownState, codeChecked, Closing, ChunkClosed};
+ghost use Rattle.emits.specs.Target.{settingAt, restAt, fieldIn, annotatedAt, Fine};
+ghost use Rattle.parser.specs.Driver.{Named, laterAt, Emitted, OtherParsed, doneBy, Lowers};
 
 // The answer, and the place behind the lines.
 pub struct Lowered {
@@ -26,6 +29,31 @@ pub struct Lowered {
 
 // ---- `parse`, of a bit field
 
+// The state with field k in its chunk.
+fn grow(
+    rec: &[u8],
+    places: &[usize],
+    own: &[u64],
+    parents: &[u64],
+    payloads: &[u64],
+    fields: &[usize],
+    i: usize,
+    n: usize,
+    k: usize,
+    t: State,
+    f: Field,
+) -> State
+    requires { ⌜ (k < n) × Fine (now rec) (now places) (now own) (now parents) (now payloads) (now fields) i n ⌝ }
+    requires { ⌜ f ≡ fieldIn (now rec) (now places) (now own) (now parents) (now payloads) (now fields) i n k ⌝ }
+    requires { ⌜ (t .chunk .len < 64) × (t .shift + widthOf (annotatedAt (now rec) (now places) (now own) (now parents) (now payloads) (now fields) i n k) < 2 ^ 64) ⌝ }
+    ensures { λ r. ⌜ r ≡ grownState t (widthOf (annotatedAt (now (rec .entry)) (now (places .entry)) (now (own .entry)) (now (parents .entry)) (now (payloads .entry)) (now (fields .entry)) i n k)) ⌝ }
+{
+    let size = annotate::field_size(rec, places, own, parents, payloads, fields, i, n, f);
+    let width = runs::static_width(size);
+    chunks::grow(t, width)
+}
+
+// The chunk with field k is at an octet boundary.
 fn parse_bit_field<'a>(
     rec: &'a [u8],
     out: &mut [u8],
@@ -39,25 +67,14 @@ fn parse_bit_field<'a>(
     fields: &[usize],
     i: usize,
     n: usize,
-    starts: &[usize],
-    ends: &[usize],
-    conds: usize,
     k: usize,
     t: State,
-    f: Field,
+    kinds: [Held; 64],
 ) -> Step
-    requires { ⌜ Turn (now rec) (now places) (now own) (now parents) (now payloads) (now fields) i n m k t ⌝ }
-    requires { ⌜ f ≡ fieldIn (now rec) (now places) (now own) (now parents) (now payloads) (now fields) i n k ⌝ }
-    requires { ⌜ isBit (settingAt (now rec) (now places) (now own) (now parents) (now payloads) (now fields) i n order m) f ≡ true ⌝ }
-    requires { ⌜ Named (now rec) (now fields) i n (now starts) (now ends) conds ⌝ }
-    ensures { λ r. ⌜ Parsed (now (rec .entry)) (now (places .entry)) (now (own .entry)) (now (parents .entry)) (now (payloads .entry)) (now (fields .entry)) i n order m k t (now (out .entry)) at r (now (out .exit)) ⌝ }
+    requires { ⌜ (k < n) × Fine (now rec) (now places) (now own) (now parents) (now payloads) (now fields) i n ⌝ }
+    requires { ⌜ Closing m (now rec) (text "payload") t kinds (laterAt (now rec) (now places) (now own) (now parents) (now payloads) (now fields) i n order m k t) ⌝ }
+    ensures { λ r. ⌜ ChunkClosed m (now (rec .entry)) (text "payload") order t kinds (laterAt (now (rec .entry)) (now (places .entry)) (now (own .entry)) (now (parents .entry)) (now (payloads .entry)) (now (fields .entry)) i n order m k t) (now (out .entry)) at r (now (out .exit)) ⌝ }
 {
-    let desc = f.desc;
-    let shift = t.shift;
-    let pending = t.pending;
-    let kind = field_kinds::kind_of(rec, places, starts, ends, conds, i, desc);
-    let size = annotate::field_size(rec, places, own, parents, payloads, fields, i, n, f);
-    let width = runs::static_width(size);
     let later = runs::later_bits(
         rec,
         places,
@@ -68,10 +85,10 @@ fn parse_bit_field<'a>(
         i,
         n,
         k,
-        pending,
-        shift + width,
+        t.pending,
+        t.shift,
     );
-    chunks::parse_bit_field(rec, b"payload", out, at, m, order, t, kind, width, later)
+    chunks::close(rec, b"payload", out, at, m, order, t, kinds, later)
 }
 
 // ---- `parse`, of any other field
@@ -141,9 +158,9 @@ fn parse_other_field<'a>(
     k: usize,
     t: State,
 ) -> Step
-    requires { ⌜ Turn (now rec) (now places) (now own) (now parents) (now payloads) (now fields) i n m k t ⌝ }
+    requires { ⌜ (k < n) × Fine (now rec) (now places) (now own) (now parents) (now payloads) (now fields) i n ⌝ }
     requires { ⌜ isBit (settingAt (now rec) (now places) (now own) (now parents) (now payloads) (now fields) i n order m) (fieldIn (now rec) (now places) (now own) (now parents) (now payloads) (now fields) i n k) ≡ false ⌝ }
-    ensures { λ r. ⌜ Parsed (now (rec .entry)) (now (places .entry)) (now (own .entry)) (now (parents .entry)) (now (payloads .entry)) (now (fields .entry)) i n order m k t (now (out .entry)) at r (now (out .exit)) ⌝ }
+    ensures { λ r. ⌜ OtherParsed (now (rec .entry)) (now (places .entry)) (now (own .entry)) (now (parents .entry)) (now (payloads .entry)) (now (fields .entry)) i n order m k t (now (out .entry)) at r (now (out .exit)) ⌝ }
 {
     let checked = chunks::check_code(t);
     let verdict = checked.verdict;
@@ -181,71 +198,7 @@ fn parse_other_field<'a>(
     }
 }
 
-// ---- one field, all fields, and the end
-
-fn parse<'a>(
-    rec: &'a [u8],
-    out: &mut [u8],
-    at: usize,
-    order: EndiannessValue,
-    m: Arrays,
-    places: &[usize],
-    own: &[u64],
-    parents: &[u64],
-    payloads: &[u64],
-    fields: &[usize],
-    i: usize,
-    n: usize,
-    starts: &[usize],
-    ends: &[usize],
-    conds: usize,
-    k: usize,
-    t: State,
-) -> Step
-    requires { ⌜ Turn (now rec) (now places) (now own) (now parents) (now payloads) (now fields) i n m k t ⌝ }
-    requires { ⌜ Named (now rec) (now fields) i n (now starts) (now ends) conds ⌝ }
-    ensures { λ r. ⌜ Parsed (now (rec .entry)) (now (places .entry)) (now (own .entry)) (now (parents .entry)) (now (payloads .entry)) (now (fields .entry)) i n order m k t (now (out .entry)) at r (now (out .exit)) ⌝ }
-{
-    let f = references::field_in(rec, fields, i, k);
-    if runs::is_bit(rec, places, i, f) {
-        return parse_bit_field(
-            rec,
-            out,
-            at,
-            order,
-            m,
-            places,
-            own,
-            parents,
-            payloads,
-            fields,
-            i,
-            n,
-            starts,
-            ends,
-            conds,
-            k,
-            t,
-            f,
-        );
-    }
-    parse_other_field(
-        rec,
-        out,
-        at,
-        order,
-        m,
-        places,
-        own,
-        parents,
-        payloads,
-        fields,
-        i,
-        n,
-        k,
-        t,
-    )
-}
+// ---- all fields, and the end
 
 // The lines end at p; a refusal has none.
 fn done(t: State, at: usize, p: usize) -> Lowered
@@ -266,7 +219,7 @@ fn done(t: State, at: usize, p: usize) -> Lowered
 }
 
 // `parse` for each field, and `done`.
-fn parse_fields<'a>(
+fn parse<'a>(
     rec: &'a [u8],
     out: &mut [u8],
     at: usize,
@@ -287,42 +240,89 @@ fn parse_fields<'a>(
     requires { ⌜ Named (now rec) (now fields) i n (now starts) (now ends) conds ⌝ }
     ensures { λ r. ⌜ Lowers (rendered (lowerFields (settingAt (now (rec .entry)) (now (places .entry)) (now (own .entry)) (now (parents .entry)) (now (payloads .entry)) (now (fields .entry)) i n order m) (restAt (now (rec .entry)) (now (places .entry)) (now (own .entry)) (now (parents .entry)) (now (payloads .entry)) (now (fields .entry)) i n 0))) (now (out .entry)) at r (now (out .exit)) ⌝ }
 {
+    let none = KindAt::Reserved;
+    let mut kinds = [Held { kind: none }; 64];
     let mut t = chunks::new();
     let mut p = at;
     let mut k = 0;
     while k < n {
-        let step = parse(
-            rec,
-            out,
-            p,
-            order,
-            m,
-            places,
-            own,
-            parents,
-            payloads,
-            fields,
-            i,
-            n,
-            starts,
-            ends,
-            conds,
-            k,
-            t,
-        );
-        let verdict = step.verdict;
-        match verdict {
-            Verdict::Refuse(why) => {
-                return Lowered {
-                    verdict: Verdict::Refuse(why),
-                    at,
-                };
-            }
-            Verdict::Pass => {
-                p = step.at;
-                let s = step.state;
-                t = s;
+        let f = references::field_in(rec, fields, i, k);
+        if runs::is_bit(rec, places, i, f) {
+            let desc = f.desc;
+            let kind = field_kinds::kind_of(rec, places, starts, ends, conds, i, desc);
+            let c = t.chunk;
+            let len = c.len;
+            let h = Held { kind };
+            kinds[len] = h;
+            let u = grow(rec, places, own, parents, payloads, fields, i, n, k, t, f);
+            if u.shift % 8 != 0 {
+                t = u;
                 k += 1;
+            } else {
+                let step = parse_bit_field(
+                    rec,
+                    out,
+                    p,
+                    order,
+                    m,
+                    places,
+                    own,
+                    parents,
+                    payloads,
+                    fields,
+                    i,
+                    n,
+                    k,
+                    u,
+                    kinds,
+                );
+                let verdict = step.verdict;
+                match verdict {
+                    Verdict::Refuse(why) => {
+                        return Lowered {
+                            verdict: Verdict::Refuse(why),
+                            at,
+                        };
+                    }
+                    Verdict::Pass => {
+                        p = step.at;
+                        let s = step.state;
+                        t = s;
+                        k += 1;
+                    }
+                }
+            }
+        } else {
+            let step = parse_other_field(
+                rec,
+                out,
+                p,
+                order,
+                m,
+                places,
+                own,
+                parents,
+                payloads,
+                fields,
+                i,
+                n,
+                k,
+                t,
+            );
+            let verdict = step.verdict;
+            match verdict {
+                Verdict::Refuse(why) => {
+                    return Lowered {
+                        verdict: Verdict::Refuse(why),
+                        at,
+                    };
+                }
+                Verdict::Pass => {
+                    p = step.at;
+                    let s = step.state;
+                    t = s;
+                    k += 1;
+                }
             }
         }
     }
@@ -350,7 +350,7 @@ pub fn lower_target(
     let mut starts = [0usize; 64];
     let mut ends = [0usize; 64];
     let conds = conditions::conditions(rec, fields, i, n, &mut starts, &mut ends);
-    parse_fields(
+    parse(
         rec,
         out,
         at,

@@ -1,6 +1,6 @@
 -- The exits of refusals 3 to 6 over the tables (`readVerdict`).
 -- Assumes nothing.
-use Prim.Native.Nat.{ℕ, zero, suc, _+_, _*_, _-_}
+use Prim.Native.Nat.{ℕ, zero, suc, _+_, _*_, _-_, _≤_}
 use mathlib.Core.Bool.{Bool, true, false}
 use mathlib.Core.List.{List, []}
 use mathlib.Core.Path.{_≡_, refl, sym, _∙_}
@@ -13,7 +13,7 @@ use Rattle.definitions.specs.declared.Refusal.{Refusal}
 use Rattle.definitions.specs.declared.Verdict.{Verdict}
 use Rattle.places.proofs.Walks.{length-declarations, length-fields}
 use Rattle.ranges.specs.Ranges.{counted}
-use Rattle.ranges.proofs.Tests.{long}
+use Rattle.ranges.proofs.Tests.{long, few-declarations}
 use Rattle.scope.specs.Scopes.{bare, hasName}
 use Rattle.record.specs.Reader.{readVerdict}
 
@@ -44,6 +44,10 @@ duplicate-bare s p f c i (suc n) = rw (named-bare s p f c (declarationIn s p f c
 -- a test that was not met
 pub not-met : {a b : Bool} → a ≡ b → a ≡ false → b ≡ false
 not-met e h = sym e ∙ h
+
+-- where 3 is not met
+pub few-declared : (c : List ℕ) (n : ℕ) {a : Bool} → a ≡ tooMany (counted c n) → a ≡ false → n ≤ 32
+few-declared c n e h = few-declarations c n (not-met e h)
 
 module _ (s p f c : List ℕ) (n : ℕ) {a : Bool} (ea : a ≡ tooMany (counted c n)) where
   many : tooMany (declarationsFrom s p f c 0 n) ≡ a

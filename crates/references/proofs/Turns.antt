@@ -57,11 +57,11 @@ module _ (s : Text) (wanted : Wanted) (fields : List ℕ) (j n : ℕ) where
     pub any-end : n ≤ k → false ≡ e
     any-end h = ap (anyReference (wantedBy s wanted)) (sym (fields-end s fields j n k h)) ∙ inv
 
-    module _ (h : k < n) {f : Field} (ef : f ≡ fieldHere s (getD fields (j + k) 0)) {by : Reference} (er : by ≡ reference (f .desc)) {b : Bool} (eb : b ≡ wantedBy s wanted by) where
+    module _ (h : k < n) {by : Reference} (er : by ≡ reference (fieldHere s (getD fields (j + k) 0) .desc)) {b : Bool} (eb : b ≡ wantedBy s wanted by) where
       split : (b || anyReference (wantedBy s wanted) (fieldsFrom s fields (j + (k + 1)) (n - (k + 1)))) ≡ e
       split =
           ap (λ (b : Bool). b || anyReference (wantedBy s wanted) (fieldsFrom s fields (j + (k + 1)) (n - (k + 1))))
-          (eb ∙ ap (wantedBy s wanted) (er ∙ ap (λ (f : Field). reference (f .desc)) ef))
+          (eb ∙ ap (wantedBy s wanted) er)
           ∙ ap (anyReference (wantedBy s wanted)) (sym (fields-more s fields j n k h)) ∙ inv
 
       pub any-found : b ≡ true → true ≡ e
@@ -107,12 +107,11 @@ module _ (s : Text) (id : Part) (fields : List ℕ) (j n : ℕ) where
     unfolding firstCount
     count-end h = ap (firstCount s id) (sym (fields-end s fields j n k h)) ∙ inv
 
-    module _ (h : k < n) {f : Field} (ef : f ≡ fieldHere s (getD fields (j + k) 0)) {by : Reference} (er : by ≡ reference (f .desc)) {c : ArraySize} (ec : c ≡ countedBy s id by ArraySize.Unknown) where
+    module _ (h : k < n) {by : Reference} (er : by ≡ reference (fieldHere s (getD fields (j + k) 0) .desc)) {c : ArraySize} (ec : c ≡ countedBy s id by ArraySize.Unknown) where
       split-count : countedBy s id by (firstCount s id (fieldsFrom s fields (j + (k + 1)) (n - (k + 1)))) ≡ e
       unfolding firstCount
       split-count =
-          ap (λ (by : Reference). countedBy s id by (firstCount s id (fieldsFrom s fields (j + (k + 1)) (n - (k + 1)))))
-          (er ∙ ap (λ (f : Field). reference (f .desc)) ef)
+          ap (λ (by : Reference). countedBy s id by (firstCount s id (fieldsFrom s fields (j + (k + 1)) (n - (k + 1))))) er
           ∙ ap (firstCount s id) (sym (fields-more s fields j n k h)) ∙ inv
 
       module _ {b : Bool} (eb : b ≡ isKnown c) where

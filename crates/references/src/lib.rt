@@ -4,6 +4,7 @@
 use definitions::ArraySize;
 use definitions::Field;
 use definitions::FieldDesc;
+use definitions::Found;
 use definitions::MaybeNumber;
 use definitions::Part;
 use definitions::Reference;
@@ -14,10 +15,10 @@ ghost use Rattle.definitions.specs.Bytes.{pick};
 ghost use Rattle.definitions.specs.Sizes.{sameName, reference, isPayloadSize, isArraySize, isElementSize, anyReference, hasPayloadSize, hasArraySize, countedBy, firstCount, arraySize};
 ghost use Rattle.definitions.specs.Tables.{fieldHere, fieldsFrom};
 ghost use Rattle.definitions.specs.declared.ArraySize.{ArraySize};
-ghost use Rattle.references.specs.Wanted.{wantedBy, isKnown};
+ghost use Rattle.references.specs.Wanted.{mayRefer, wantedBy, isKnown};
 
 // The place of field k; 0 outside the table.
-fn place_in(fields: &[usize], i: usize, k: usize) -> usize
+pub fn place_in(fields: &[usize], i: usize, k: usize) -> usize
     ensures { λ r. ⌜ r ≡ getD (now (fields .entry)) (i * 64 + k) 0 ⌝ }
 {
     let n = fields.len();
@@ -65,6 +66,35 @@ pub fn reference(desc: FieldDesc) -> Reference
         FieldDesc::Flag { id: _ } => Reference::None,
         FieldDesc::Typedef { id: _, type_id: _ } => Reference::None,
     }
+}
+
+// The kind of the field at a place is one that refers to another field: size, count or element size.
+fn may_refer(rec: &[u8], at: usize) -> bool
+    ensures { λ r. ⌜ r ≡ mayRefer (now (rec .entry)) at ⌝ }
+{
+    if let Found::At(_) = names::key_at(rec, at, b"field=size\n") {
+        return true;
+    }
+    if let Found::At(_) = names::key_at(rec, at, b"field=count\n") {
+        return true;
+    }
+    if let Found::At(_) = names::key_at(rec, at, b"field=elemsize\n") {
+        return true;
+    }
+    false
+}
+
+// What field k refers to. Of other kinds no more is read than the kind.
+fn reference_in(rec: &[u8], fields: &[usize], i: usize, k: usize) -> Reference
+    ensures { λ r. ⌜ r ≡ reference (fieldHere (now (rec .entry)) (getD (now (fields .entry)) (i * 64 + k) 0) .desc) ⌝ }
+{
+    let at = place_in(fields, i, k);
+    if !may_refer(rec, at) {
+        return Reference::None;
+    }
+    let f = places::field_here(rec, at);
+    let desc = f.desc;
+    reference(desc)
 }
 
 // ---- a field that gives a size
@@ -127,9 +157,8 @@ fn any_reference(rec: &[u8], fields: &[usize], i: usize, n: usize, wanted: Wante
 {
     let mut k = 0;
     while k < n {
-        let f = field_in(rec, fields, i, k);
-        let desc = f.desc;
-        if wanted_by(rec, wanted, reference(desc)) {
+        let by = reference_in(rec, fields, i, k);
+        if wanted_by(rec, wanted, by) {
             return true;
         }
         k += 1;
@@ -200,9 +229,8 @@ fn first_count(rec: &[u8], fields: &[usize], i: usize, n: usize, id: Part) -> Ar
 {
     let mut k = 0;
     while k < n {
-        let f = field_in(rec, fields, i, k);
-        let desc = f.desc;
-        let size = counted_by(rec, id, reference(desc));
+        let by = reference_in(rec, fields, i, k);
+        let size = counted_by(rec, id, by);
         if is_known(size) {
             return size;
         }

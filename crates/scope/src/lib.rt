@@ -10,26 +10,49 @@ ghost use mathlib.Core.Path.{_≡_};
 ghost use mathlib.Core.Bool.{false};
 ghost use mathlib.Core.List.{[]};
 ghost use Prim.Native.Nat.{_+_, _-_, _≤_};
-ghost use lib.ListN.{getD};
+ghost use lib.ListN.{length, getD};
 ghost use Rattle.definitions.specs.Bytes.{any};
-ghost use Rattle.definitions.specs.Sizes.{parentId};
+ghost use Rattle.definitions.specs.Sizes.{sameName, parentId};
 ghost use Rattle.definitions.specs.Refusals.{tooMany, duplicateName, find as findDesc, isFrame, isEnumDesc, lacks as lacksDesc, badName, badType, badNames, unknownName};
 ghost use Rattle.definitions.specs.Tables.{fieldsFrom, declarationIn, declarationsFrom};
 ghost use Rattle.ranges.specs.Ranges.{counted};
-ghost use Rattle.scope.specs.Scopes.{bare, hasName, wants, badFieldType};
+ghost use Rattle.scope.specs.Scopes.{bare, namesFrom, twice, Gathered, wants, badFieldType};
 
 // ---- 4: two declarations with one name
 
-// One of the declarations from `first` up to n has the name.
-fn is_named(rec: &[u8], places: &[usize], first: usize, n: usize, name: Part) -> bool
-    ensures { λ r. ⌜ r ≡ any (hasName (now (rec .entry)) name) (declarationsFrom (now (rec .entry)) (now (places .entry)) [] [] first (n - first)) ⌝ }
+// The names of the first n declarations, as two tables of their places in the record: so each declaration is read once.
+fn gather(rec: &[u8], places: &[usize], n: usize, starts: &mut [usize], ends: &mut [usize])
+    requires { ⌜ n ≤ length (now starts) ⌝ }
+    requires { ⌜ n ≤ length (now ends) ⌝ }
+    ensures { λ _. ⌜ Gathered (now (rec .entry)) (now (places .entry)) (now (starts .exit)) (now (ends .exit)) n ⌝ }
 {
-    let mut i = first;
+    let mut i = 0;
     while i < n {
         let at = places::get(places, i);
         let d = places::decl_here(rec, at);
         let id = d.id;
-        if names::same_name(rec, name, id) {
+        places::put(starts, i, id.start);
+        places::put(ends, i, id.end);
+        i += 1;
+    }
+}
+
+// One of the names from `first` up to n is the name.
+fn is_named(
+    rec: &[u8],
+    starts: &[usize],
+    ends: &[usize],
+    first: usize,
+    n: usize,
+    name: Part,
+) -> bool
+    ensures { λ r. ⌜ r ≡ any (sameName (now (rec .entry)) name) (namesFrom (now (starts .entry)) (now (ends .entry)) first (n - first)) ⌝ }
+{
+    let mut i = first;
+    while i < n {
+        let start = places::get(starts, i);
+        let end = places::get(ends, i);
+        if names::same_name(rec, name, Part { start, end }) {
             return true;
         }
         i += 1;
@@ -37,21 +60,31 @@ fn is_named(rec: &[u8], places: &[usize], first: usize, n: usize, name: Part) ->
     false
 }
 
-// Two of the first n declarations have one name.
-pub fn duplicate_name(rec: &[u8], places: &[usize], n: usize) -> bool
-    ensures { λ r. ⌜ r ≡ duplicateName (now (rec .entry)) (bare (now (rec .entry)) (now (places .entry)) n) ⌝ }
+// Two of the first n names are the same.
+fn is_twice(rec: &[u8], starts: &[usize], ends: &[usize], n: usize) -> bool
+    ensures { λ r. ⌜ r ≡ twice (now (rec .entry)) (namesFrom (now (starts .entry)) (now (ends .entry)) 0 n) ⌝ }
 {
     let mut i = 0;
     while i < n {
-        let at = places::get(places, i);
-        let d = places::decl_here(rec, at);
-        let id = d.id;
-        if is_named(rec, places, i + 1, n, id) {
+        let start = places::get(starts, i);
+        let end = places::get(ends, i);
+        if is_named(rec, starts, ends, i + 1, n, Part { start, end }) {
             return true;
         }
         i += 1;
     }
     false
+}
+
+// Two of the first n declarations have one name, where there are not too many (3).
+pub fn duplicate_name(rec: &[u8], places: &[usize], n: usize) -> bool
+    requires { ⌜ n ≤ 32 ⌝ }
+    ensures { λ r. ⌜ r ≡ duplicateName (now (rec .entry)) (bare (now (rec .entry)) (now (places .entry)) n) ⌝ }
+{
+    let mut starts = [0usize; 32];
+    let mut ends = [0usize; 32];
+    gather(rec, places, n, &mut starts, &mut ends);
+    is_twice(rec, &starts, &ends, n)
 }
 
 // ---- 5: a type or parent is not an earlier declaration, a parent is no packet or struct, a fixed enum's type is no enum

@@ -1,20 +1,18 @@
 -- `names::name_of` meets its contract, by the laws of Words.
 -- Assumes nothing.
-use Prim.Native.Nat.{_≤_, _-_}
-use mathlib.Core.Path.{_≡_}
-use lib.ListN.{length, drop}
-use native.Mathlib.Omega.{arith}
-use Rattle.definitions.specs.Record.{wordOf, nameOf}
-use Rattle.names.proofs.Words.{words, first-word, name-turn}
+use Prim.Native.Nat.{_-_}
+use lib.ListN.{drop}
+use Rattle.definitions.specs.Record.{nameOf}
+use Rattle.names.proofs.Words.{Reading, words, first-word, read-start, read-turn}
 use borrow.Author.Needs.{needs}
 use Rattle.names.proofs.name_of.Statement.{statement}
 use Rattle.names.proofs.name_of.Tie as tie
 
 abbrev Inv-loop : tie.InvT-loop
-Inv-loop s at first n₀ p₀ n p = (n ≤ 32) × (wordOf (drop p s) at n p ≡ nameOf (drop at s) at)
+Inv-loop rec at first limit p₀ p = Reading rec at limit p (nameOf (drop at rec) at)
 
 abbrev μ-loop : tie.MeasureT-loop
-μ-loop s at first n₀ p₀ n p = length s - p
+μ-loop rec at first limit p₀ p = limit - p
 
 returns : tie.Need-returns Inv-loop μ-loop
 returns c = search (words, needs)
@@ -31,29 +29,26 @@ returns-2 c = search (words, needs)
 returns-3 : tie.Need-returns-3 Inv-loop μ-loop
 returns-3 c = search (words, needs)
 
+name-limit-requires : tie.Need-name-limit-requires Inv-loop μ-loop
+name-limit-requires c κs = search needs
+
 loop-holds : tie.Need-loop-holds Inv-loop μ-loop
-loop-holds c = (search needs, search (first-word, needs))
+loop-holds c = search (read-start, first-word, needs)
 
 shared-slice-read-b : tie.Need-shared-slice-read-b Inv-loop μ-loop
 shared-slice-read-b c = search needs
 
-add-t17 : tie.Need-add-t17 Inv-loop μ-loop
-add-t17 c = search needs
+is-word-requires : tie.Need-is-word-requires Inv-loop μ-loop
+is-word-requires c κs = search needs
+
+add-t18 : tie.Need-add-t18 Inv-loop μ-loop
+add-t18 c = search needs
 
 returns-4 : tie.Need-returns-4 Inv-loop μ-loop
 returns-4 c = search (words, needs)
 
 returns-5 : tie.Need-returns-5 Inv-loop μ-loop
 returns-5 c = search (words, needs)
-
-is-word-requires : tie.Need-is-word-requires Inv-loop μ-loop
-is-word-requires c κs = search needs
-
-returns-6 : tie.Need-returns-6 Inv-loop μ-loop
-returns-6 c = search (words, needs)
-
-add-n : tie.Need-add-n Inv-loop μ-loop
-add-n c = search needs
 
 add-p : tie.Need-add-p Inv-loop μ-loop
 add-p c = search needs
@@ -62,10 +57,10 @@ loop-less : tie.Need-loop-less Inv-loop μ-loop
 loop-less c = search needs
 
 loop-again : tie.Need-loop-again Inv-loop μ-loop
-loop-again c = (omega arith, search (name-turn, needs))
+loop-again c = search (read-turn, needs)
 
-returns-7 : tie.Need-returns-7 Inv-loop μ-loop
-returns-7 c = search (words, needs)
+returns-6 : tie.Need-returns-6 Inv-loop μ-loop
+returns-6 c = search (words, needs)
 
 pub name-of-spec : {M : Type 1} → statement M
 name-of-spec =
@@ -78,15 +73,14 @@ name-of-spec =
     is-digit-requires
     returns-2
     returns-3
+    name-limit-requires
     loop-holds
     shared-slice-read-b
-    add-t17
+    is-word-requires
+    add-t18
     returns-4
     returns-5
-    is-word-requires
-    returns-6
-    add-n
     add-p
     loop-less
     loop-again
-    returns-7)
+    returns-6)

@@ -14,14 +14,14 @@ slice-aggregate-conditions-2 c = search needs
 conditions-requires : tie.Need-conditions-requires
 conditions-requires c κs = search needs
 
-slice-aggregate-parse-fields : tie.Need-slice-aggregate-parse-fields
-slice-aggregate-parse-fields c = search needs
+slice-aggregate-parse : tie.Need-slice-aggregate-parse
+slice-aggregate-parse c = search needs
 
-slice-aggregate-parse-fields-2 : tie.Need-slice-aggregate-parse-fields-2
-slice-aggregate-parse-fields-2 c = search needs
+slice-aggregate-parse-2 : tie.Need-slice-aggregate-parse-2
+slice-aggregate-parse-2 c = search needs
 
-parse-fields-requires : tie.Need-parse-fields-requires
-parse-fields-requires c κs =
+parse-requires : tie.Need-parse-requires
+parse-requires c κs =
     (c .before .before .before .before .before .before .before .before .before .before .before .before .before .before .before .pre, gathered-names _ _ _ _ (c .before .before .before .before .before .conditions .ensures) (c .before .before .before .before .before .before .before .before .before .before .before .before .before .before .before .pre .0) (c .before .before .before .before .before .before .before .before .before .before .before .before .before .before .before .pre .0))
 
 same-length : tie.Need-same-length
@@ -37,8 +37,8 @@ lower-target-spec =
     slice-aggregate-conditions
     slice-aggregate-conditions-2
     conditions-requires
-    slice-aggregate-parse-fields
-    slice-aggregate-parse-fields-2
-    parse-fields-requires
+    slice-aggregate-parse
+    slice-aggregate-parse-2
+    parse-requires
     same-length
     returns)

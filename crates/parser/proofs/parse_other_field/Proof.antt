@@ -15,26 +15,24 @@ enum-told : tie.Need-enum-told
 enum-told c = search needs
 
 emit-requires : tie.Need-emit-requires
-emit-requires c κs = (c .before .before .before .before .before .before .before .before .before .before .before .before .pre .0 .inside, c .before .before .before .before .before .before .before .before .before .before .before .before .pre .0 .fine)
+emit-requires c κs = c .before .before .before .before .before .before .before .before .before .before .before .before .pre .0
 
 returns : tie.Need-returns
 returns c =
-    other-open _ _ _ _ _ _ _ _ _ _ _
-    (c .before .before .before .before .before .before .before .before .before .before .before .before .pre .0)
+    λ kinds turn. other-open _ _ _ _ _ _ _ _ _ _ _
     (c .before .before .before .before .before .before .before .before .before .before .before .before .pre .1)
     (c .before .before .before .before .check-code .ensures)
-    (search needs) _ _ (search needs)
+    kinds turn (search needs) _ _ (search needs)
 
 same-length : tie.Need-same-length
 same-length c = search needs
 
 returns-2 : tie.Need-returns-2
 returns-2 c =
-    other-goes _ _ _ _ _ _ _ _ _ _ _
-    (c .before .before .before .before .before .before .before .before .before .before .before .before .before .before .before .pre .0)
+    λ kinds turn. other-goes _ _ _ _ _ _ _ _ _ _ _
     (c .before .before .before .before .before .before .before .before .before .before .before .before .before .before .before .pre .1)
     (c .before .before .before .before .before .before .before .check-code .ensures)
-    (search needs)
+    kinds turn (search needs)
     (c .before .before .emit .ensures)
 
 pub parse-other-field-spec : {M : Type 1} → statement M

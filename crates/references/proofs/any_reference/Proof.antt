@@ -19,11 +19,8 @@ abbrev μ-loop : tie.MeasureT-loop
 loop-holds : tie.Need-loop-holds Inv-loop μ-loop
 loop-holds c = (search needs, search (any-start, needs))
 
-field-in-requires : tie.Need-field-in-requires Inv-loop μ-loop
-field-in-requires c κs = search needs
-
-reference-requires : tie.Need-reference-requires Inv-loop μ-loop
-reference-requires c κs = search needs
+reference-in-requires : tie.Need-reference-in-requires Inv-loop μ-loop
+reference-in-requires c κs = search needs
 
 wanted-by-requires : tie.Need-wanted-by-requires Inv-loop μ-loop
 wanted-by-requires c κs = search needs
@@ -50,8 +47,7 @@ any-reference-spec =
     Inv-loop
     μ-loop
     loop-holds
-    field-in-requires
-    reference-requires
+    reference-in-requires
     wanted-by-requires
     returns
     add-k

@@ -18,11 +18,8 @@ abbrev μ-loop : tie.MeasureT-loop
 loop-holds : tie.Need-loop-holds Inv-loop μ-loop
 loop-holds c = (search needs, search (count-start, needs))
 
-field-in-requires : tie.Need-field-in-requires Inv-loop μ-loop
-field-in-requires c κs = search needs
-
-reference-requires : tie.Need-reference-requires Inv-loop μ-loop
-reference-requires c κs = search needs
+reference-in-requires : tie.Need-reference-in-requires Inv-loop μ-loop
+reference-in-requires c κs = search needs
 
 counted-by-requires : tie.Need-counted-by-requires Inv-loop μ-loop
 counted-by-requires c κs = search needs
@@ -52,8 +49,7 @@ first-count-spec =
     Inv-loop
     μ-loop
     loop-holds
-    field-in-requires
-    reference-requires
+    reference-in-requires
     counted-by-requires
     is-known-requires
     returns

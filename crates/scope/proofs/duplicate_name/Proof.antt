@@ -1,65 +1,39 @@
--- `scope::duplicate_name` meets its contract, by the laws of Duplicates.
+-- `scope::duplicate_name` meets its contract: the tables have the names of the declarations.
 -- Assumes nothing.
-use Prim.Native.Nat.{_-_}
-use mathlib.Core.List.{[]}
-use mathlib.Core.Path.{_≡_}
-use Rattle.definitions.specs.Refusals.{duplicateName}
-use Rattle.definitions.specs.Tables.{declarationsFrom}
-use Rattle.scope.specs.Scopes.{bare}
-use Rattle.scope.proofs.Duplicates.{duplicate-end, duplicate-found, duplicate-turn, duplicate-start}
+use Rattle.scope.proofs.Duplicates.{duplicate-is}
 use borrow.Author.Needs.{needs}
 use Rattle.scope.proofs.duplicate_name.Statement.{statement}
 use Rattle.scope.proofs.duplicate_name.Tie as tie
 
-abbrev Inv-loop : tie.InvT-loop
-Inv-loop rec places n i₀ i = duplicateName rec (declarationsFrom rec places [] [] i (n - i)) ≡ duplicateName rec (bare rec places n)
+slice-aggregate-gather : tie.Need-slice-aggregate-gather
+slice-aggregate-gather c = search needs
 
-abbrev μ-loop : tie.MeasureT-loop
-μ-loop rec places n i₀ i = n - i
+slice-aggregate-gather-2 : tie.Need-slice-aggregate-gather-2
+slice-aggregate-gather-2 c = search needs
 
-loop-holds : tie.Need-loop-holds Inv-loop μ-loop
-loop-holds c = search (duplicate-start, needs)
+gather-requires : tie.Need-gather-requires
+gather-requires c κs = search needs
 
-get-requires : tie.Need-get-requires Inv-loop μ-loop
-get-requires c κs = search needs
+slice-aggregate-is-twice : tie.Need-slice-aggregate-is-twice
+slice-aggregate-is-twice c = search needs
 
-decl-here-requires : tie.Need-decl-here-requires Inv-loop μ-loop
-decl-here-requires c κs = search needs
+slice-aggregate-is-twice-2 : tie.Need-slice-aggregate-is-twice-2
+slice-aggregate-is-twice-2 c = search needs
 
-add-is-named : tie.Need-add-is-named Inv-loop μ-loop
-add-is-named c = search needs
+is-twice-requires : tie.Need-is-twice-requires
+is-twice-requires c κs = search needs
 
-is-named-requires : tie.Need-is-named-requires Inv-loop μ-loop
-is-named-requires c κs = search needs
-
-returns : tie.Need-returns Inv-loop μ-loop
-returns c = search (duplicate-found, needs)
-
-add-i : tie.Need-add-i Inv-loop μ-loop
-add-i c = search needs
-
-loop-less : tie.Need-loop-less Inv-loop μ-loop
-loop-less c = search needs
-
-loop-again : tie.Need-loop-again Inv-loop μ-loop
-loop-again c = search (duplicate-turn, needs)
-
-returns-2 : tie.Need-returns-2 Inv-loop μ-loop
-returns-2 c = search (duplicate-end, needs)
+returns : tie.Need-returns
+returns c = search (duplicate-is, needs)
 
 pub duplicate-name-spec : {M : Type 1} → statement M
 duplicate-name-spec =
     tie.close
     (tie.spec
-    Inv-loop
-    μ-loop
-    loop-holds
-    get-requires
-    decl-here-requires
-    add-is-named
-    is-named-requires
-    returns
-    add-i
-    loop-less
-    loop-again
-    returns-2)
+    slice-aggregate-gather
+    slice-aggregate-gather-2
+    gather-requires
+    slice-aggregate-is-twice
+    slice-aggregate-is-twice-2
+    is-twice-requires
+    returns)
