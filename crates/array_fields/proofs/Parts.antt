@@ -23,7 +23,7 @@ use Rattle.rows.specs.declared.EnumType.{EnumType}
 use Rattle.elements.specs.declared.Element.{Element}
 use Rattle.emits.specs.declared.BlockAt.{BlockAt}
 use Rattle.emits.specs.Target.{rowsOf, fieldsOf, annotatedAt, Fine}
-use Rattle.trailing.proofs.Rests.{padding-fine}
+use Rattle.emits.proofs.Fines.{padding-fine}
 use Rattle.array_fields.specs.Arrays.{typedElement, elementAt, bytesOf, arrayAt}
 
 -- ---- the element

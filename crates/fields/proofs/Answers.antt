@@ -24,7 +24,7 @@ use Rattle.rows.specs.Enums.{enumType}
 use Rattle.emits.specs.BlockOf.{emitOf, EmitFits}
 use Rattle.emits.specs.Target.{rowsOf, fieldsOf, settingAt, annotatedAt, restAt, Fine}
 use Rattle.emits.specs.declared.EmitAt.{EmitAt}
-use Rattle.trailing.proofs.Rests.{size-fine}
+use Rattle.emits.proofs.Fines.{size-fine}
 use Rattle.trailing.proofs.Fits.{typedef-fits, payload-fits}
 use Rattle.array_fields.proofs.Fits.{array-fits}
 use Rattle.fields.specs.Parsed.{Parsed}

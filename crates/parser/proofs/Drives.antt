@@ -27,7 +27,7 @@ use Rattle.chunks.specs.Steps.{newState, codeChecked}
 use Rattle.chunks.proofs.Advances.{onVerdict, new-view, new-long, code-flushes}
 use Rattle.emits.specs.Target.{settingAt, restAt, Fine}
 use Rattle.emits.proofs.Rests.{rest-end}
-use Rattle.runs.proofs.Rests.{sum-fine}
+use Rattle.emits.proofs.Fines.{sum-fine}
 use Rattle.parser.specs.declared.Lowered.{Lowered}
 use Rattle.parser.specs.Driver.{seen, Going, Turn, Parsed, doneBy, Lowers}
 use Rattle.parser.proofs.Others.{nothing-ahead}

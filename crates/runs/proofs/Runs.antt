@@ -20,7 +20,7 @@ use Rattle.stream.proofs.Steps.{run-bit, run-no}
 use Rattle.chunks.proofs.Within.{run-below}
 use Rattle.emits.specs.Target.{rowsOf, fieldsOf, settingAt, restAt, fieldIn, annotatedAt, Fine}
 use Rattle.emits.proofs.Rests.{rest-end, rest-step}
-use Rattle.runs.proofs.Rests.{sum-fine}
+use Rattle.emits.proofs.Fines.{sum-fine}
 
 -- ---- a bit field without a condition
 

@@ -12,7 +12,8 @@ use Rattle.definitions.specs.declared.MaybeNumber.{MaybeNumber}
 use Rattle.definitions.specs.declared.Size.{Size}
 use Rattle.emits.specs.Target.{restAt, annotatedAt, Fine}
 use Rattle.trailing.specs.Values.{staticNumber}
-use Rattle.trailing.proofs.Rests.{rest-end, rest-more, sum-fine}
+use Rattle.emits.proofs.Rests.{rest-end, rest-step}
+use Rattle.emits.proofs.Fines.{sum-fine}
 
 pub static-as : {z c : Size} {r : MaybeNumber} → z ≡ c → r ≡ staticNumber c → r ≡ staticNumber z
 static-as e h = h ∙ ap staticNumber (sym e)
@@ -53,12 +54,12 @@ module _ (s : Text) (places own parents payloads fields : List ℕ) (i n : ℕ) 
       pub trailing-none : m ≡ MaybeNumber.None → MaybeNumber.None ≡ e
       trailing-none k =
           other-head t (here j) (rest (j + 1)) z (sym ez) (sym k ∙ em)
-          ∙ ap (trailingFrom t) (sym (rest-more s places own parents payloads fields i n j h)) ∙ inv
+          ∙ ap (trailingFrom t) (sym (rest-step s places own parents payloads fields i n j h)) ∙ inv
 
       pub trailing-turn : {bits : ℕ} → m ≡ MaybeNumber.Some bits → trailingFrom (t + bits) (rest (j + 1)) ≡ e
       trailing-turn k =
           sym (static-head t (here j) (rest (j + 1)) (sym ez ∙ is-static z (sym k ∙ em)))
-          ∙ ap (trailingFrom t) (sym (rest-more s places own parents payloads fields i n j h)) ∙ inv
+          ∙ ap (trailingFrom t) (sym (rest-step s places own parents payloads fields i n j h)) ∙ inv
 
   pub room-start : Fine s places own parents payloads fields i n → (k : ℕ) → k < n → 0 + staticSum (rest (k + 1)) ≤ 2147483647
   room-start fine k h = omega (arith, sum-fine s places own parents payloads fields i n fine (k + 1) (omega arith))
@@ -68,7 +69,7 @@ module _ (s : Text) (places own parents payloads fields : List ℕ) (i n : ℕ) 
     sum-here : staticSum (rest j) ≡ bits + staticSum (rest (j + 1))
     unfolding staticSum
     sum-here =
-        ap staticSum (rest-more s places own parents payloads fields i n j h)
+        ap staticSum (rest-step s places own parents payloads fields i n j h)
         ∙ ap (λ (z : Size). staticBits z + staticSum (rest (j + 1))) (sym ez ∙ is-static z (sym k ∙ em))
 
     pub room-here : t + bits < 2 ^ 64

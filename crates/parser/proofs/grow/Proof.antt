@@ -1,13 +1,13 @@
 -- `parser::grow` meets its contract, by the laws of proofs/BitFields.
 -- Assumes nothing.
-use Rattle.runs.proofs.Rests.{size-fine}
+use Rattle.emits.proofs.Fines.{read-fine}
 use Rattle.parser.proofs.BitFields.{width-fits, width-grows}
 use borrow.Author.Needs.{needs}
 use Rattle.parser.proofs.grow.Statement.{statement}
 use Rattle.parser.proofs.grow.Tie as tie
 
 field-size-requires : tie.Need-field-size-requires
-field-size-requires c κs = size-fine _ _ _ _ _ _ _ _ (c .before .before .before .before .before .before .pre .0 .1) _ (c .before .before .before .before .before .before .pre .0 .0) (c .before .before .before .before .before .before .pre .1 .0)
+field-size-requires c κs = read-fine _ _ _ _ _ _ _ _ _ (c .before .before .before .before .before .before .pre .1 .0) (c .before .before .before .before .before .before .pre .0 .1) (c .before .before .before .before .before .before .pre .0 .0)
 
 static-width-requires : tie.Need-static-width-requires
 static-width-requires c κs = search needs

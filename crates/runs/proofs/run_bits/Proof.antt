@@ -1,7 +1,7 @@
 -- `runs::run_bits` meets its contract, by the laws of proofs/Runs.
 -- Assumes nothing.
 use Prim.Native.Nat.{_≤_, _-_}
-use Rattle.runs.proofs.Rests.{size-fine}
+use Rattle.emits.proofs.Fines.{read-fine}
 use Rattle.runs.proofs.Runs.{Summed, run-start, run-end, run-stop, run-turn, run-fits}
 use borrow.Author.Needs.{needs}
 use Rattle.runs.proofs.run_bits.Statement.{statement}
@@ -23,7 +23,7 @@ is-bit-requires : tie.Need-is-bit-requires Inv-loop μ-loop
 is-bit-requires c κs = search needs
 
 field-size-requires : tie.Need-field-size-requires Inv-loop μ-loop
-field-size-requires c κs = search (size-fine, needs)
+field-size-requires c κs = search (read-fine, needs)
 
 static-width-requires : tie.Need-static-width-requires Inv-loop μ-loop
 static-width-requires c κs = search needs

@@ -1,6 +1,6 @@
 -- `trailing::field_size` meets its contract.
 -- Assumes nothing.
-use Rattle.trailing.proofs.Rests.{read-fine, read-size}
+use Rattle.emits.proofs.Fines.{read-fine, read-size}
 use borrow.Author.Needs.{needs}
 use Rattle.trailing.proofs.field_size.Statement.{statement}
 use Rattle.trailing.proofs.field_size.Tie as tie

@@ -1,22 +1,22 @@
--- The target's fields from one on, and what refusal 7 says of them: none of them is over the limit, nor is the sum of their static sizes.
+-- What refusal 7 says of the target's fields from one on: none of them is over the limit, nor is the sum of their static sizes.
 -- Assumes nothing.
 use lib.ListN.{getD}
-use Prim.Native.Nat.{ℕ, zero, suc, _+_, _*_, _≤_, _<_}
+use Prim.Native.Nat.{ℕ, zero, suc, _+_, _*_, _≤_, _<_, _^_}
 use mathlib.Core.Bool.{false}
-use mathlib.Core.List.{List, [], _∷_}
+use mathlib.Core.List.{List, _∷_}
 use mathlib.Core.Path.{_≡_, sym, ap, subst, _∙_}
 use native.Mathlib.Numerals.{add-one}
 use native.Mathlib.Omega.{arith}
 use borrow.Author.Tests.{ltb-false}
 use Rattle.definitions.specs.Bytes.{Text, any}
-use Rattle.definitions.specs.Sizes.{Annotated, annotateField, annotateFields}
+use Rattle.definitions.specs.Sizes.{Annotated, annotateField}
 use Rattle.definitions.specs.Refusals.{largeSize, tooLarge, badMaybe, largeField, staticSum}
 use Rattle.definitions.specs.Tables.{fieldHere}
 use Rattle.definitions.specs.declared.Field.{Field}
 use Rattle.definitions.specs.declared.Size.{Size}
 use Rattle.bits.proofs.Booleans.{or-left, or-right}
-use Rattle.references.proofs.Turns.{fields-end, fields-more}
 use Rattle.emits.specs.Target.{rowsOf, fieldsOf, restAt, annotatedAt, Fine}
+use Rattle.emits.proofs.Rests.{rest-step}
 
 module _ (s : Text) (places own parents payloads fields : List ℕ) (i n : ℕ) where
   abbrev rest : ℕ → List Annotated
@@ -25,17 +25,8 @@ module _ (s : Text) (places own parents payloads fields : List ℕ) (i n : ℕ) 
   abbrev here : ℕ → Annotated
   here j = annotatedAt s places own parents payloads fields i n j
 
-  pub rest-end : (j : ℕ) → n ≤ j → rest j ≡ []
-  unfolding annotateFields
-  rest-end j h =
-      ap (annotateFields s (rowsOf s places own parents payloads fields i n) (fieldsOf s places own parents payloads fields i n))
-      (fields-end s fields (i * 64) n j h)
-
-  pub rest-more : (j : ℕ) → j < n → rest j ≡ here j ∷ rest (j + 1)
-  unfolding annotateFields
-  rest-more j h =
-      ap (annotateFields s (rowsOf s places own parents payloads fields i n) (fieldsOf s places own parents payloads fields i n))
-      (fields-more s fields (i * 64) n j h)
+  step : (j : ℕ) → j < n → rest j ≡ here j ∷ rest (j + 1)
+  step j h = rest-step s places own parents payloads fields i n j h
 
   module _ (fine : Fine s places own parents payloads fields i n) where
     abbrev Kept : ℕ → Type 0
@@ -44,8 +35,8 @@ module _ (s : Text) (places own parents payloads fields : List ℕ) (i n : ℕ) 
     kept-next : (j : ℕ) → j < n → Kept j → Kept (j + 1)
     unfolding staticSum
     kept-next j h kept = (
-      or-right (largeField (here j)) (any largeField (rest (j + 1))) (ap (any largeField) (sym (rest-more j h)) ∙ kept .0),
-      omega (arith, ap staticSum (rest-more j h)),
+      or-right (largeField (here j)) (any largeField (rest (j + 1))) (ap (any largeField) (sym (step j h)) ∙ kept .0),
+      omega (arith, ap staticSum (step j h)),
     )
 
     kept : (j : ℕ) → j ≤ n → Kept j
@@ -53,13 +44,13 @@ module _ (s : Text) (places own parents payloads fields : List ℕ) (i n : ℕ) 
     kept (suc j) h = subst (λ (j : ℕ). Kept j) (add-one j) (kept-next j (omega arith) (kept j (omega arith)))
 
     -- all together from one on
-    pub sum-fine : (j : ℕ) → j ≤ n → staticSum (rest j) ≤ 2147483647
-    sum-fine j h = kept j h .1
+    pub sum-fine : (j : ℕ) → j ≤ n → staticSum (rest j) < 2 ^ 31
+    sum-fine j h = let z : staticSum (rest j) ≤ 2147483647 = kept j h .1 in omega (arith, z)
 
     module _ (j : ℕ) (h : j < n) where
       large-here : largeField (here j) ≡ false
       large-here =
-          or-left (largeField (here j)) (any largeField (rest (j + 1))) (ap (any largeField) (sym (rest-more j h)) ∙ kept j (omega arith) .0)
+          or-left (largeField (here j)) (any largeField (rest (j + 1))) (ap (any largeField) (sym (step j h)) ∙ kept j (omega arith) .0)
 
       -- one of them
       pub size-fine : largeSize (here j .fieldSize) ≡ false
