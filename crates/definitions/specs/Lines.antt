@@ -101,7 +101,7 @@ pub data Stmt : Type 0 where
   when : Test → List Line → Stmt
   -- `for (size_t n = 0; n < e; n++) {` .. `}`
   count : Expr → List Line → Stmt
-  -- the same loop, met again: n goes up first. Only a run of the lines makes it
+  -- the same loop, met again: n goes up first. Only a run of the lines makes it; `for (; n < e; n++) {` .. `}`, a text that no listing has
   recount : Expr → List Line → Stmt
   -- `while (t) {` .. `}`
   while : Test → List Line → Stmt
@@ -213,7 +213,7 @@ abbrev pub stmtText : Stmt → Text → Text
 stmtText (Stmt.one x) t = lineText 0 x t
 stmtText (Stmt.when c body) t = text "if (" ++ testText c (text ") {\n" ++ bodyText body t)
 stmtText (Stmt.count e body) t = text "for (size_t n = 0; n < " ++ exprText e (text "; n++) {\n" ++ bodyText body t)
-stmtText (Stmt.recount e body) t = t
+stmtText (Stmt.recount e body) t = text "for (; n < " ++ exprText e (text "; n++) {\n" ++ bodyText body t)
 stmtText (Stmt.while c body) t = text "while (" ++ testText c (text ") {\n" ++ bodyText body t)
 
 abbrev pub stmtsText : List Stmt → Text → Text

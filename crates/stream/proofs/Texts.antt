@@ -132,7 +132,7 @@ pub stmt-leads : (s : Stmt) → Leads (stmtText s)
 stmt-leads (Stmt.one x) = line-leads 0 x
 stmt-leads (Stmt.when c xs) = piece (text "if (") ▸ test-leads c ▸ piece (text ") {\n") ▸ body-leads xs
 stmt-leads (Stmt.count e xs) = piece (text "for (size_t n = 0; n < ") ▸ expr-leads e ▸ piece (text "; n++) {\n") ▸ body-leads xs
-stmt-leads (Stmt.recount e xs) = none
+stmt-leads (Stmt.recount e xs) = piece (text "for (; n < ") ▸ expr-leads e ▸ piece (text "; n++) {\n") ▸ body-leads xs
 stmt-leads (Stmt.while c xs) = piece (text "while (") ▸ test-leads c ▸ piece (text ") {\n") ▸ body-leads xs
 
 pub stmts-leads : (l : List Stmt) → Leads (stmtsText l)
