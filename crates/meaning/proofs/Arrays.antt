@@ -6,17 +6,19 @@ use Prim.Native.Nat.{ℕ, _*_, _-_, _/_, _≤_, _<_}
 use native.Mathlib.Nat.{mul-comm, mul-le-mul-left, div-mul-le-self}
 use native.Mathlib.Omega.{arith}
 use lib.ListN.{length, take, drop, length-drop, length-append}
+use lib.IntN.{pos, _-ℤ_}
 use Rattle.definitions.specs.Bytes.{text, Text}
 use Rattle.definitions.specs.Lines.{Expr, Test, Before, Dest, Out, Line, Stmt}
-use Rattle.meaning.specs.Machine.{Cause, put, State, putSpan, putVar, num, limited, minus, unlessZero, eval, excusing}
+use Rattle.meaning.specs.Machine.{Cause, put, State, putSpan, putVar, num, over, limited, eval, excusing}
+use Rattle.meaning.specs.Plain.{Operands}
 use Rattle.definitions.specs.Blocks.{span, raw, elementSpan, checkSize, Elem, parseArrayElement, parseLines, prefix, named, bare, Array, parseArrayFieldLite, parseArrayFieldFull, byMode, arrayLines, startName}
 use Rattle.meaning.proofs.Wellformed.{reads, Apart, ElemOk}
 use Rattle.definitions.specs.declared.ElementSize.{ElementSize}
 use Rattle.definitions.specs.declared.ArraySize.{ArraySize}
 use Rattle.definitions.specs.declared.Arrays.{Arrays}
 use Rattle.meaning.proofs.Names.{apart-ends, apart-length, put-other, put-same}
-use Rattle.meaning.proofs.Wp.{Post, wpLines, Up, down, lines-up, count-up, while-up, held}
-use Rattle.meaning.proofs.Pieces.{Sizeless, known, product-given, limited-num, minus-num, unlessZero-num, by-check, line, Kept, cut-run, each-up, Still, parts-up}
+use Rattle.meaning.proofs.Wp.{Post, of-in, right-in, wpLines, Up, down, lines-up, count-up, while-up, held}
+use Rattle.meaning.proofs.Pieces.{Sizeless, sizeless-operands, known, product-num, limited-num, minus-num, unlessZero-num, natural-is, positive, by-check, line, Kept, cut-run, each-up, Still, parts-up}
 
 -- ---- names
 
@@ -66,13 +68,13 @@ module _ (id T : Text) (E : Elem) (k : ℕ) (l : List Stmt) (σ : State) (rest :
   abbrev z : Text
   z = startName id
 
-  cut-up : (e : Expr) → Sizeless e → (n : ℕ) → eval excusing σ e ≡ num n → n ≤ held σ
+  cut-up : (e : Expr) → Sizeless e → (n : ℕ) → eval excusing σ e ≡ num (pos n) → n ≤ held σ
       → Up k (Stmt.one (Line.front Before.old x span e) ∷ Stmt.one (Line.skip span e) ∷ l) σ
   cut-up e se n ev le =
       lines-up k (Line.front Before.old x span e ∷ Line.skip span e ∷ []) l σ (cut-run x e (x-span id) se z (Up k l) σ n ev le rest)
 
   room-cut : (e : Expr) → Sizeless e → Up k (Stmt.one (checkSize e) ∷ Stmt.one (Line.front Before.old x span e) ∷ Stmt.one (Line.skip span e) ∷ l) σ
-  room-cut e se = line k (checkSize e) _ σ (by-check (eval excusing σ e) (held σ) _ (λ n ev le. cut-up e se n ev le))
+  room-cut e se = line k (checkSize e) _ σ (right-in σ _ _ e (sizeless-operands e se σ) (by-check (eval excusing σ e) (held σ) _ (λ n ev le. cut-up e se n ev le)))
 
   whole-up : Up k (Stmt.one (Line.keep x span) ∷ Stmt.one (Line.clear span) ∷ l) σ
   whole-up = lines-up k (Line.keep x span ∷ Line.clear span ∷ []) l σ (rest _ (omega arith, refl))
@@ -102,11 +104,13 @@ module _ (id T : Text) (E : Elem) (k : ℕ) (l : List Stmt) (σ : State) (rest :
 
   eaten-up : (τ : State) → Both τ → Up k eaten τ
   eaten-up τ i =
-      line k (Line.front Before.old x x (Expr.sub (Expr.size x) (Expr.size span))) l τ
-      (known (minus (length (τ .spans x)) (held τ)) (length (τ .spans x) - held τ) _ (minus-num (length (τ .spans x)) (held τ) (i .0)) (
-        omega arith,
-        rest _ (omega (arith, ap length (put-other (τ .spans) x (take (length (τ .spans x) - held τ) (τ .spans x)) span (x-span id))), i .1 .1),
-      ))
+      line k (Line.front Before.old x x (Expr.sub (Expr.size x) (Expr.size span))) l τ (
+        (tt, tt, tt, tt),
+        known (num (pos (length (τ .spans x)) -ℤ pos (held τ))) (length (τ .spans x) - held τ) _ (minus-num (length (τ .spans x)) (held τ) (i .0)) (
+          omega arith,
+          rest _ (omega (arith, ap length (put-other (τ .spans) x (take (length (τ .spans x) - held τ) (τ .spans x)) span (x-span id))), i .1 .1),
+        ),
+      )
 
   kept-both : Both (putSpan σ x (σ .spans span))
   kept-both = (
@@ -114,19 +118,19 @@ module _ (id T : Text) (E : Elem) (k : ℕ) (l : List Stmt) (σ : State) (rest :
     (omega (arith, ap length (put-other (σ .spans) x (σ .spans span) span (x-span id))), refl),
   )
 
-  count-eaten : (e : Expr) → ((τ : State) → (n : ℕ) × (eval excusing τ e ≡ num n)) → Up k (Stmt.one (Line.keep x span) ∷ Stmt.count e lines ∷ eaten) σ
-  count-eaten e ev =
+  count-eaten : (e : Expr) → Sizeless e → ((τ : State) → (n : ℕ) × (eval excusing τ e ≡ num (pos n))) → Up k (Stmt.one (Line.keep x span) ∷ Stmt.count e lines ∷ eaten) σ
+  count-eaten e se ev =
       line k (Line.keep x span) _ σ
       (down k (Stmt.count e lines ∷ eaten) _
-      (count-up e lines eaten Both Both (λ τ i. known (eval excusing τ e) (ev τ .0) _ (ev τ .1) (λ m. parse-both τ i, λ m. i)) k eaten-up _ kept-both))
+      (count-up e lines eaten Both Both (λ τ i. of-in τ _ e (sizeless-operands e se τ) (known (eval excusing τ e) (ev τ .0) _ (ev τ .1) (λ m. parse-both τ i, λ m. i))) k eaten-up _ kept-both))
 
   while-eaten : Up k (Stmt.one (Line.keep x span) ∷ Stmt.while (Test.more span) lines ∷ eaten) σ
   while-eaten =
       line k (Line.keep x span) _ σ
       (while-up (Test.more span) lines eaten Both Both (λ τ i. (parse-both τ i, i)) k eaten-up _ kept-both)
 
-  pos : (es : ℕ) → 0 < es → es ≡ 0 → ⊥
-  pos es h e = omega arith
+  some-of : (es : ℕ) → 0 < es → es ≡ 0 → ⊥
+  some-of es h e = omega arith
 
   pub lite-up : (w : ElementSize) (m : ArraySize) → ElemOk w E → Up k (parseArrayFieldLite id T E l w m) σ
   lite-up (ElementSize.Static es) (ArraySize.StaticCount n) h = room-cut _ tt
@@ -136,20 +140,20 @@ module _ (id T : Text) (E : Elem) (k : ℕ) (l : List Stmt) (σ : State) (rest :
         λ _. tt,
         λ le.
             line k (Line.check 4 _) _ σ
-            (known (unlessZero es _) _ _ (unlessZero-num es _ (pos es (h .0))) (λ _. cut-up _ tt _ refl le, tt)),
+            ((tt, tt, tt, positive es (some-of es (h .0))), known _ _ _ (unlessZero-num es _ _ (some-of es (h .0))) (λ _. cut-up _ tt _ refl le, tt)),
       )
   lite-up (ElementSize.Static es) ArraySize.Unknown h =
-      line k (Line.check 4 _) _ σ (known (unlessZero es _) _ _ (unlessZero-num es _ (pos es (h .0))) (λ _. whole-up, tt))
+      line k (Line.check 4 _) _ σ ((tt, tt, tt, positive es (some-of es (h .0))), known _ _ _ (unlessZero-num es _ _ (some-of es (h .0))) (λ _. whole-up, tt))
   lite-up ElementSize.Dynamic (ArraySize.StaticCount n) h = line k (Line.check 4 _) _ σ (tt, room-cut _ (tt, tt))
   lite-up ElementSize.Dynamic ArraySize.DynamicCount h = line k (Line.check 4 _) _ σ (tt, room-cut _ (tt, tt))
   lite-up ElementSize.Dynamic ArraySize.DynamicSize h =
       line k (checkSize _) _ σ (
         λ _. tt,
-        λ le. line k (Line.check 4 _) _ σ (λ _. tt, λ ne. known _ _ _ (unlessZero-num _ _ ne) (λ _. cut-up _ tt _ refl le, tt)),
+        λ le. line k (Line.check 4 _) _ σ (λ _. tt, λ ne. ((tt, tt, tt, positive _ ne), known _ _ _ (unlessZero-num _ _ _ ne) (λ _. cut-up _ tt _ refl le, tt))),
       )
-  lite-up ElementSize.Dynamic ArraySize.Unknown h = line k (Line.check 4 _) _ σ (λ _. tt, λ ne. known _ _ _ (unlessZero-num _ _ ne) (λ _. whole-up, tt))
-  lite-up ElementSize.Unknown (ArraySize.StaticCount n) h = count-eaten (Expr.lit n) (λ τ. (n, refl))
-  lite-up ElementSize.Unknown ArraySize.DynamicCount h = count-eaten (Expr.var (named Arrays.Lite id (text "_count_"))) (λ τ. (τ .vars (named Arrays.Lite id (text "_count_")), refl))
+  lite-up ElementSize.Dynamic ArraySize.Unknown h = line k (Line.check 4 _) _ σ (λ _. tt, λ ne. ((tt, tt, tt, positive _ ne), known _ _ _ (unlessZero-num _ _ _ ne) (λ _. whole-up, tt)))
+  lite-up ElementSize.Unknown (ArraySize.StaticCount n) h = count-eaten (Expr.lit n) tt (λ τ. (n, refl))
+  lite-up ElementSize.Unknown ArraySize.DynamicCount h = count-eaten (Expr.var (named Arrays.Lite id (text "_count_"))) tt (λ τ. (τ .vars (named Arrays.Lite id (text "_count_")), refl))
   lite-up ElementSize.Unknown ArraySize.DynamicSize h = room-cut _ tt
   lite-up ElementSize.Unknown ArraySize.Unknown h = while-eaten
 
@@ -183,61 +187,68 @@ module _ (id T : Text) (E : Elem) (k : ℕ) (l : List Stmt) (σ : State) (rest :
   nonzero es h e = omega arith
 
   -- a count of one's ownVar, and that many elements read
-  own-each : (e : Expr) (q : ℕ) → eval excusing σ e ≡ num q → q * reads E ≤ held σ
+  own-each : (e : Expr) (q : ℕ) → Operands σ e → eval excusing σ e ≡ num (pos q) → q * reads E ≤ held σ
       → Up k (Stmt.one (Line.setTo Before.auto ownVar e) ∷ Stmt.count (Expr.var ownVar) pushed ∷ l) σ
-  own-each e q ev le =
+  own-each e q d ev le =
       line k (Line.setTo Before.auto ownVar e) _ σ
+      (of-in σ _ e d
       (known (eval excusing σ e) q _ ev
       (each-up startVar (raw-start id) k l (putVar σ ownVar q)
       (λ τ kept. rest τ (kept .0, kept .1 ∙ put-other (σ .vars) ownVar q startVar (own-start id)))
-      (Expr.var ownVar) (raw-own id) q E (Dest.push (named Arrays.Full id (text "_"))) Out.out (ap num (put-same (σ .vars) ownVar q)) le))
+      (Expr.var ownVar) (raw-own id) q E (Dest.push (named Arrays.Full id (text "_"))) Out.out (ap (λ (n : ℕ). num (pos n)) (put-same (σ .vars) ownVar q)) le)))
 
   scaled : (q es h : ℕ) → reads E ≤ es → q * es ≤ h → q * reads E ≤ h
   scaled q es h a b = omega (arith, mul-le-mul-left {m = reads E} {n = es} q a)
 
   -- after the parts: the skip of a product
-  skip-product : (e : Expr) (m : ℕ) → ((τ : State) → τ .vars ≡ σ .vars → eval excusing τ e ≡ num m) → σ .vars elementVar * m ≤ held σ
+  skip-product : (e : Expr) (m : ℕ) → ((τ : State) → Operands τ e) → ((τ : State) → τ .vars ≡ σ .vars → eval excusing τ e ≡ num (pos m)) → σ .vars elementVar * m ≤ held σ
       → (τ : State) → Still σ τ → Up k (Stmt.one (Line.skip span (Expr.mul (Expr.var elementVar) e)) ∷ l) τ
-  skip-product e m ev le τ s =
+  skip-product e m d ev le τ s =
       let v : τ .vars elementVar ≡ σ .vars elementVar = ap (λ (f : Text → ℕ). f elementVar) (s .0) in
       let h : held τ ≡ held σ = ap length (s .1) in
       let p : τ .vars elementVar * m ≤ held τ = rw (v, h) le in
-      line k (Line.skip span (Expr.mul (Expr.var elementVar) e)) l τ
-      (rw (ev τ (s .0))
-      (product-given (τ .vars elementVar * m) _
-      (p, rest _ (omega (arith, length-drop (τ .vars elementVar * m) (τ .spans span)), ap (λ (f : Text → ℕ). f startVar) (s .0)))))
+      line k (Line.skip span (Expr.mul (Expr.var elementVar) e)) l τ (
+        (tt, d τ, tt, natural-is _ m (ev τ (s .0))),
+        rw (ev τ (s .0))
+            (product-num (τ .vars elementVar * m) _
+            (p, rest _ (omega (arith, length-drop (τ .vars elementVar * m) (τ .spans span)), ap (λ (f : Text → ℕ). f startVar) (s .0)))),
+      )
 
   -- a product's room, its parts, and its skip
-  product-parts : (e : Expr) (m : ℕ) → ((τ : State) → τ .vars ≡ σ .vars → eval excusing τ e ≡ num m)
+  product-parts : (e : Expr) (m : ℕ) → ((τ : State) → Operands τ e) → ((τ : State) → τ .vars ≡ σ .vars → eval excusing τ e ≡ num (pos m))
       → Up k
       (Stmt.one (checkSize (Expr.mul (Expr.var elementVar) e))
       ∷ Stmt.count e inPart
       ∷ Stmt.one (Line.skip span (Expr.mul (Expr.var elementVar) e))
       ∷ l) σ
-  product-parts e m ev =
-      line k (checkSize (Expr.mul (Expr.var elementVar) e)) _ σ
-      (rw (ev σ refl)
-      (by-check (limited Cause.byProduct (σ .vars elementVar * m)) (held σ) _
-      (λ n q le.
-      let b : σ .vars elementVar * m ≤ held σ = omega (arith, limited-num (σ .vars elementVar * m) n q) in
-      parts-up k _ σ (skip-product e m ev b) e m elementVar T (Dest.slot (named Arrays.Full id (text "_"))) Out.out ev (omega (arith, mul-comm m (σ .vars elementVar))))))
+  product-parts e m d ev =
+      line k (checkSize (Expr.mul (Expr.var elementVar) e)) _ σ (
+        (tt, d σ, tt, natural-is _ m (ev σ refl)),
+        rw (ev σ refl)
+            (by-check (limited (over Cause.byProduct) (pos (σ .vars elementVar * m))) (held σ) _
+            (λ n q le.
+            let b : σ .vars elementVar * m ≤ held σ = omega (arith, limited-num (σ .vars elementVar * m) n q) in
+            parts-up k _ σ (skip-product e m d ev b) e m elementVar T (Dest.slot (named Arrays.Full id (text "_"))) Out.out d ev
+            (omega (arith, mul-comm m (σ .vars elementVar))))),
+      )
 
   -- a count of one's ownVar, and that many parts
-  own-parts : (e : Expr) (S : ℕ) (after : List Stmt) → eval excusing σ e ≡ num (S / σ .vars elementVar) → S ≤ held σ
+  own-parts : (e : Expr) (S : ℕ) (after : List Stmt) → Operands σ e → eval excusing σ e ≡ num (pos (S / σ .vars elementVar)) → S ≤ held σ
       → ((τ : State) → τ .vars sizeVar ≡ σ .vars sizeVar → τ .vars startVar ≡ σ .vars startVar → τ .spans span ≡ σ .spans span → Up k after τ)
       → Up k (Stmt.one (Line.setTo Before.auto ownVar e) ∷ Stmt.count (Expr.var ownVar) inPart ∷ after) σ
-  own-parts e S after ev le f =
+  own-parts e S after d ev le f =
       let q : ℕ = S / σ .vars elementVar in
       let w : put (σ .vars) ownVar q elementVar ≡ σ .vars elementVar = put-other (σ .vars) ownVar q elementVar (own-esize id) in
       line k (Line.setTo Before.auto ownVar e) _ σ
+      (of-in σ _ e d
       (known (eval excusing σ e) q _ ev
       (parts-up k after (putVar σ ownVar q)
       (λ τ s.
       f τ (ap (λ (g : Text → ℕ). g sizeVar) (s .0) ∙ put-other (σ .vars) ownVar q sizeVar (own-size id))
       (ap (λ (g : Text → ℕ). g startVar) (s .0) ∙ put-other (σ .vars) ownVar q startVar (own-start id)) (s .1))
-      (Expr.var ownVar) q elementVar T (Dest.slot (named Arrays.Full id (text "_"))) Out.out
-      (λ τ v. ap num (ap (λ (g : Text → ℕ). g ownVar) v ∙ put-same (σ .vars) ownVar q))
-      (omega (arith, div-mul-le-self S (σ .vars elementVar), ap (λ (u : ℕ). q * u) w))))
+      (Expr.var ownVar) q elementVar T (Dest.slot (named Arrays.Full id (text "_"))) Out.out (λ τ. tt)
+      (λ τ v. ap (λ (n : ℕ). num (pos n)) (ap (λ (g : Text → ℕ). g ownVar) v ∙ put-same (σ .vars) ownVar q))
+      (omega (arith, div-mul-le-self S (σ .vars elementVar), ap (λ (u : ℕ). q * u) w)))))
 
   parse-kept : (τ : State) (f : Dest) (g : Out) → Kept startVar σ τ → wpLines (parseArrayElement span (Elem.parsed T) f g) (Kept startVar σ) τ
   parse-kept τ f g i = λ a n u. (tt, (omega (arith, length-drop n (τ .spans span)), i .1))
@@ -284,60 +295,70 @@ module _ (id T : Text) (E : Elem) (k : ℕ) (l : List Stmt) (σ : State) (rest :
             (scaled n es (held σ) (h .1) (omega (arith, mul-comm n es))),
       )
   full-up (ElementSize.Static es) ArraySize.DynamicCount h =
-      line k (checkSize _) _ σ
-      (by-check (limited Cause.byProduct (es * σ .vars countVar)) (held σ) _
-      (λ n ev le.
-      each-up startVar (raw-start id) k l σ rest (Expr.var countVar) (raw-count Arrays.Full id) (σ .vars countVar) E (Dest.push (named Arrays.Full id (text "_"))) Out.out refl
-      (scaled (σ .vars countVar) es (held σ) (h .1) (omega (arith, mul-comm (σ .vars countVar) es, limited-num (es * σ .vars countVar) n ev)))))
+      line k (checkSize _) _ σ (
+        (tt, tt, tt, tt),
+        by-check (limited (over Cause.byProduct) (pos (es * σ .vars countVar))) (held σ) _
+            (λ n ev le.
+            each-up startVar (raw-start id) k l σ rest (Expr.var countVar) (raw-count Arrays.Full id) (σ .vars countVar) E (Dest.push (named Arrays.Full id (text "_"))) Out.out refl
+            (scaled (σ .vars countVar) es (held σ) (h .1) (omega (arith, mul-comm (σ .vars countVar) es, limited-num (es * σ .vars countVar) n ev)))),
+      )
   full-up (ElementSize.Static es) ArraySize.DynamicSize h =
       line k (checkSize _) _ σ (
         λ _. tt,
         λ le.
-            line k (Line.check 4 _) _ σ
-            (known (unlessZero es _) _ _ (unlessZero-num es _ (nonzero es (h .0))) (
-              λ _.
-                  own-each _ (σ .vars sizeVar / es) (unlessZero-num es _ (nonzero es (h .0)))
-                  (scaled (σ .vars sizeVar / es) es (held σ) (h .1) (omega (arith, div-mul-le-self (σ .vars sizeVar) es))),
-              tt,
-            )),
+            line k (Line.check 4 _) _ σ (
+              (tt, tt, tt, positive es (nonzero es (h .0))),
+              known _ _ _ (unlessZero-num es _ _ (nonzero es (h .0))) (
+                λ _.
+                    own-each _ (σ .vars sizeVar / es) (tt, tt, tt, positive es (nonzero es (h .0))) (unlessZero-num es _ _ (nonzero es (h .0)))
+                    (scaled (σ .vars sizeVar / es) es (held σ) (h .1) (omega (arith, div-mul-le-self (σ .vars sizeVar) es))),
+                tt,
+              ),
+            ),
       )
   full-up (ElementSize.Static es) ArraySize.Unknown h =
-      line k (Line.check 4 _) _ σ
-      (known (unlessZero es _) _ _ (unlessZero-num es _ (nonzero es (h .0))) (
-        λ _.
-            own-each _ (held σ / es) (unlessZero-num es _ (nonzero es (h .0)))
-            (scaled (held σ / es) es (held σ) (h .1) (div-mul-le-self (held σ) es)),
-        tt,
-      ))
-  full-up ElementSize.Dynamic (ArraySize.StaticCount n) h = product-parts (Expr.lit n) n (λ τ v. refl)
-  full-up ElementSize.Dynamic ArraySize.DynamicCount h = product-parts (Expr.var countVar) (σ .vars countVar) (λ τ v. ap (λ (f : Text → ℕ). num (f countVar)) v)
+      line k (Line.check 4 _) _ σ (
+        (tt, tt, tt, positive es (nonzero es (h .0))),
+        known _ _ _ (unlessZero-num es _ _ (nonzero es (h .0))) (
+          λ _.
+              own-each _ (held σ / es) (tt, tt, tt, positive es (nonzero es (h .0))) (unlessZero-num es _ _ (nonzero es (h .0)))
+              (scaled (held σ / es) es (held σ) (h .1) (div-mul-le-self (held σ) es)),
+          tt,
+        ),
+      )
+  full-up ElementSize.Dynamic (ArraySize.StaticCount n) h = product-parts (Expr.lit n) n (λ τ. tt) (λ τ v. refl)
+  full-up ElementSize.Dynamic ArraySize.DynamicCount h = product-parts (Expr.var countVar) (σ .vars countVar) (λ τ. tt) (λ τ v. ap (λ (f : Text → ℕ). num (pos (f countVar))) v)
   full-up ElementSize.Dynamic ArraySize.DynamicSize h =
       line k (checkSize _) _ σ (
         λ _. tt,
         λ le.
             line k (Line.check 4 _) _ σ (
               λ _. tt,
-              λ ne.
-                  known _ _ _ (unlessZero-num _ _ ne) (
-                    λ _.
-                        own-parts _ (σ .vars sizeVar) (Stmt.one (Line.skip span (Expr.var sizeVar)) ∷ l) (unlessZero-num _ _ ne) le
-                        (λ τ a b c.
-                        line k (Line.skip span (Expr.var sizeVar)) l τ
-                        (omega (arith, ap length c), rest _ (omega (arith, ap length c, length-drop (τ .vars sizeVar) (τ .spans span)), b))),
-                    tt,
-                  ),
+              λ ne. (
+                (tt, tt, tt, positive _ ne),
+                known _ _ _ (unlessZero-num _ _ _ ne) (
+                  λ _.
+                      own-parts _ (σ .vars sizeVar) (Stmt.one (Line.skip span (Expr.var sizeVar)) ∷ l) (tt, tt, tt, positive _ ne) (unlessZero-num _ _ _ ne) le
+                      (λ τ a b c.
+                      line k (Line.skip span (Expr.var sizeVar)) l τ
+                      (omega (arith, ap length c), rest _ (omega (arith, ap length c, length-drop (τ .vars sizeVar) (τ .spans span)), b))),
+                  tt,
+                ),
+              ),
             ),
       )
   full-up ElementSize.Dynamic ArraySize.Unknown h =
       line k (Line.check 4 _) _ σ (
         λ _. tt,
-        λ ne.
-            known _ _ _ (unlessZero-num _ _ ne) (
-              λ _.
-                  own-parts _ (held σ) (Stmt.one (Line.clear span) ∷ l) (unlessZero-num _ _ ne) (omega arith)
-                  (λ τ a b c. line k (Line.clear span) l τ (rest _ (omega arith, b))),
-              tt,
-            ),
+        λ ne. (
+          (tt, tt, tt, positive _ ne),
+          known _ _ _ (unlessZero-num _ _ _ ne) (
+            λ _.
+                own-parts _ (held σ) (Stmt.one (Line.clear span) ∷ l) (tt, tt, tt, positive _ ne) (unlessZero-num _ _ _ ne) (omega arith)
+                (λ τ a b c. line k (Line.clear span) l τ (rest _ (omega arith, b))),
+            tt,
+          ),
+        ),
       )
   full-up ElementSize.Unknown (ArraySize.StaticCount n) h =
       each-up startVar (raw-start id) k l σ rest (Expr.lit n) tt n (Elem.parsed T) (Dest.slot (named Arrays.Full id (text "_"))) Out.moved refl (omega arith)

@@ -1,28 +1,34 @@
 -- What is proved of every accepted record: demand 3, and of demand 2 the bits. Read this file first. The statements name `answer` and `program`
--- (definitions: Answer, Blocks), `run` (specs/Machine), the reference's rule (specs/Rule), checked runs (specs/Runs) and places (specs/Places).
+-- (definitions: Answer, Blocks), `run` (specs/Machine), plain lines (specs/Plain), the reference's rule (specs/Rule), checked runs (specs/Runs) and places
+-- (specs/Places).
 -- Assumes nothing.
-use mathlib.Core.List.{List}
+use mathlib.Core.Bool.{true}
+use mathlib.Core.List.{List, [], _∷_, _++_}
 use mathlib.Core.Option.{some}
-use mathlib.Core.Path.{_≡_}
-use Prim.Native.Nat.{ℕ, _+_, _*_, _/_, _^_, _≤_, _<_}
+use mathlib.Core.Path.{_≡_, subst}
+use Prim.Native.Nat.{ℕ, _+_, _*_, _/_, _^_, _<_}
 use lib.ListN.{length, drop}
 use Rattle.definitions.specs.Bytes.{Text}
 use Rattle.definitions.specs.Lines.{Stmt, render}
 use Rattle.definitions.specs.Blocks.{span, Block, program}
 use Rattle.definitions.specs.FieldParser.{Setting, accepted}
 use Rattle.definitions.specs.Answer.{answer, lower}
-use Rattle.meaning.specs.Machine.{Answer, State, start, running, beyond, run, Inside}
-use Rattle.meaning.specs.Rule.{Octets, groups}
-use Rattle.meaning.specs.Runs.{CheckedRun, runLines, behindRun, allWidths, Passes, RunToItsEnd, fieldsIn, placedAll, Target, targetOf, setting}
+use Rattle.meaning.specs.Machine.{Reply, State, start, running, beyond, run, Inside}
+use Rattle.meaning.specs.Plain.{PlainNext}
+use Rattle.meaning.specs.Written.{written}
+use Rattle.meaning.specs.Rule.{Octets, runs}
+use Rattle.meaning.specs.Runs.{CheckedRun, runLines, behindRun, allWidths, Passes, ComeTo, RunToItsEnd, runsIn, placedRuns, Target, targetOf, setting}
 use Rattle.meaning.specs.Places.{BitField, ChunkOf, atField, Given}
-use Rattle.meaning.proofs.Safe.{never}
+use Rattle.meaning.proofs.Safe.{never, plain-next}
+use Rattle.meaning.proofs.Wellformed.{BlocksOk}
 use Rattle.meaning.proofs.Frame.{inside}
 use Rattle.meaning.proofs.Entries.{has-grounds}
 use Rattle.meaning.proofs.Accepted.{blocks-ok}
 use Rattle.meaning.proofs.Grouped.{shaped}
 use Rattle.meaning.proofs.Located.{chunk-of}
 use Rattle.meaning.proofs.Printed.{lines-printed}
-use Rattle.meaning.proofs.Reaching.{checked-ok, number-widths, ended-moved, passed-all, given-bits}
+use Rattle.meaning.proofs.Listed.{all-written}
+use Rattle.meaning.proofs.Reaching.{checked-ok, number-widths, ended-moved, come-behind, given-bits}
 
 -- ==== Demand 3
 
@@ -34,55 +40,69 @@ pub record Demand3 (s : Text) (bs : List Block) : Type 0 where
   -- then held. (Where a premise is broken the run is `excused` from there on.)
   pub never-beyond : (frame : List ℕ) → length frame < 2 ^ 31
       → (vars : Text → ℕ) → ((x : Text) → vars x < 2 ^ 64)
-      → (answers : List Answer) (steps : ℕ)
-      → run steps (start frame vars answers) (program bs) ≡ beyond → ⊥
+      → (replies : List Reply) (steps : ℕ)
+      → run steps (start frame vars replies) (program bs) ≡ beyond → ⊥
+  -- The same from any state before any block: whatever is written into variables and spans between two blocks (a C++ name that goes out of scope).
+  pub from-any-block : (pre post : List Block) → bs ≡ pre ++ post → (σ : State) (steps : ℕ) → run steps σ (program post) ≡ beyond → ⊥
   -- And so never beyond the frame's end: every span is a part of the frame.
-  pub inside-the-frame : (frame : List ℕ) (vars : Text → ℕ) (answers : List Answer) (steps : ℕ) (σ : State) (l : List Stmt)
-      → run steps (start frame vars answers) (program bs) ≡ running σ l
+  pub inside-the-frame : (frame : List ℕ) (vars : Text → ℕ) (replies : List Reply) (steps : ℕ) (σ : State) (l : List Stmt)
+      → run steps (start frame vars replies) (program bs) ≡ running σ l
       → (x : Text) → Inside frame (σ .spans x)
   -- In each checked run the checked number equals the sum of the widths of its chunks over 8; the sum is whole octets.
   pub number-is : (r : CheckedRun bs) → (r .number ≡ allWidths (r .chunks) / 8) × (8 * r .number ≡ allWidths (r .chunks))
-  -- The chunks of the checked runs are the groups of the target's bit fields, in order, each field with the width that the record gives it.
-  pub widths-are : (t : Target) → targetOf s ≡ some t → fieldsIn bs ≡ placedAll (setting s t) (groups (setting s t))
+  -- The checked runs, in order, are the runs of the target's bit fields: the chunks of each are the groups that were closed since the flush before, each
+  -- field with the width that the record gives it.
+  pub runs-are : (t : Target) → targetOf s ≡ some t → runsIn bs ≡ placedRuns (setting s t) (runs (setting s t))
   -- Wherever a checked run is run to its end, from the state σ to the state τ, the number is that of the bytes it reads and skips; and these were the
   -- first of the span.
   pub run-to-its-end : (r : CheckedRun bs) (σ τ : State) → Passes (runLines r) (behindRun r) σ τ
       → (τ .spans span ≡ drop (r .number) (σ .spans span)) × (τ .readAndSkipped ≡ σ .readAndSkipped + r .number)
-  -- And a run of the lines that has come behind a checked run (no more lines are left than those behind it) has run it to its end.
-  pub behind-is-ended : (r : CheckedRun bs) (σ υ : State) (k : ℕ) (l : List Stmt)
-      → run k σ (program bs) ≡ running υ l → length l ≤ length (behindRun r)
-      → RunToItsEnd bs r σ k
+  -- And a run of the lines that has come behind a checked run, now or at an earlier step, has run it to its end.
+  pub behind-is-ended : (r : CheckedRun bs) (σ : State) (k : ℕ) → ComeTo (behindRun r) bs σ k → RunToItsEnd bs r σ k
+
+later-ok : (pre post : List Block) → BlocksOk (pre ++ post) → BlocksOk post
+later-ok [] post h = h
+later-ok (b ∷ pre) post h = later-ok pre post (h .1)
 
 -- For every record that is accepted.
 pub demand-3 : (s : Text) (bs : List Block) → answer s ≡ accepted bs → Demand3 s bs
 demand-3 s bs e =
     record {
-      never-beyond = λ frame short vars small answers steps. never bs (blocks-ok s bs e) (start frame vars answers) steps;
-      inside-the-frame = λ frame vars answers steps σ l f. inside frame vars answers steps (program bs) l σ f;
+      never-beyond = λ frame short vars small replies steps. never bs (blocks-ok s bs e) (start frame vars replies) steps;
+      from-any-block = λ pre post f σ steps. never post (later-ok pre post (subst BlocksOk f (blocks-ok s bs e))) σ steps;
+      inside-the-frame = λ frame vars replies steps σ l f. inside frame vars replies steps (program bs) l σ f;
       number-is = λ r. number-widths (r .number) (r .chunks) (checked-ok s bs e r);
-      widths-are = λ t f. shaped s bs e t f .chunks;
+      runs-are = λ t f. shaped s bs e t f .runs-are;
       run-to-its-end = λ r. ended-moved bs r (checked-ok s bs e r);
-      behind-is-ended = λ r σ υ k l f. passed-all bs r σ υ k l f (checked-ok s bs e r);
+      behind-is-ended = λ r. come-behind bs r (checked-ok s bs e r);
     }
+
+-- Stronger than asked: wherever a run of the lines has come, the line that is run next uses no number below zero but on the right of a `<`, and
+-- divides by no zero. So what these would give, which the machine has from outside, does not matter: proofs/Outside.
+pub plain : (s : Text) (bs : List Block) → answer s ≡ accepted bs
+    → (frame : List ℕ) (vars : Text → ℕ) (replies : List Reply) (steps : ℕ) (σ : State) (l : List Stmt)
+    → run steps (start frame vars replies) (program bs) ≡ running σ l → PlainNext σ l
+plain s bs e frame vars replies steps σ l f = plain-next bs (blocks-ok s bs e) (start frame vars replies) σ steps l f
 
 -- ==== Demand 2, the bits
 
 -- Of a bit field d of the target.
 pub record Demand2Bits (bs : List Block) (c : Setting) (d : BitField c) : Type 0 where
-  -- its chunk in a checked run
+  -- It has a chunk in a checked run.
   pub chunk : ChunkOf bs c d
-  -- Run on a frame, the lines give the field, once they have come to it (no more are left than from its own on), the bits that the reference's rule
-  -- gives it out of the octets read for its group: see `Given`.
-  pub given : (frame : List ℕ) → Octets frame → (vars : Text → ℕ) (answers : List Answer) (k : ℕ) (υ : State) (l : List Stmt)
-      → run k (start frame vars answers) (program bs) ≡ running υ l → length l ≤ length (atField bs c d chunk)
-      → Given bs c d chunk (start frame vars answers) k
+  -- And wherever its chunk stands: run on a frame, the lines give the field, once they have come to it, now or at an earlier step, the bits that the
+  -- reference's rule gives it out of the octets read for its run: see `Given`.
+  pub given : (h : ChunkOf bs c d) (frame : List ℕ) → Octets frame → (vars : Text → ℕ) (replies : List Reply) (k : ℕ)
+      → ComeTo (atField bs c d h) bs (start frame vars replies) k → Given bs c d h (start frame vars replies) k
 
 -- For every record that is accepted, and every bit field of its target that stands in a group of whole octets and is no reserved one.
 pub bits : (s : Text) (bs : List Block) → answer s ≡ accepted bs
     → (t : Target) → targetOf s ≡ some t → (d : BitField (setting s t)) → Demand2Bits bs (setting s t) d
 bits s bs e t f d =
-    let h : ChunkOf bs (setting s t) d = chunk-of bs (setting s t) (shaped s bs e t f) d in
-    record { chunk = h; given = given-bits bs (setting s t) d h (checked-ok s bs e (h .inRun)) }
+    record {
+      chunk = chunk-of bs (setting s t) (shaped s bs e t f) d;
+      given = λ h. given-bits bs (setting s t) d h (checked-ok s bs e (h .inRun));
+    }
 
 -- An accepted record has a target.
 pub has-target : (s : Text) (bs : List Block) → answer s ≡ accepted bs → (t : Target) × (targetOf s ≡ some t)
@@ -96,3 +116,7 @@ has-target s bs e =
 pub printed : (s : Text) (room : ℕ) → lower s room .answered ≡ 0
     → (bs : List Block) × (answer s ≡ accepted bs) × (lower s room .lines ≡ render (program bs))
 printed s room z = lines-printed s room z
+
+-- The text of these lines is read in one way: every expression is in brackets where C++ would read it otherwise, and no line is one that only a run makes.
+pub written-so : (bs : List Block) → written (program bs) ≡ true
+written-so bs = all-written bs

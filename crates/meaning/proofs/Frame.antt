@@ -8,7 +8,7 @@ use lib.ListN.{take, drop, take-append-drop}
 use Rattle.definitions.specs.Bytes.{Text, pick, same}
 use Rattle.definitions.specs.Lines.{Stmt}
 use Rattle.definitions.specs.Blocks.{span}
-use Rattle.meaning.specs.Machine.{Inside, Answer, State, start, putSpan, running, run}
+use Rattle.meaning.specs.Machine.{Inside, Reply, State, start, putSpan, running, run}
 use Rattle.meaning.proofs.Steps.{Closed, on-run}
 
 part-take : (f s : List ℕ) (n : ℕ) → Inside f s → Inside f (take n s)
@@ -49,7 +49,7 @@ module _ (f : List ℕ) where
       record {
         var = λ σ x n p. p;
         turns = λ σ n p. p;
-        answers = λ σ l p. p;
+        replies = λ σ l p. p;
         copy = λ σ x s p. put-part σ x (σ .spans s) p (p s);
         part = λ σ x s at n p. put-part σ x (take n (drop at (σ .spans s))) p (part-take f _ n (part-drop f (σ .spans s) at (p s)));
         rest = λ σ s n p. put-part σ s (drop n (σ .spans s)) p (part-drop f (σ .spans s) n (p s));
@@ -57,14 +57,14 @@ module _ (f : List ℕ) where
         clear = λ σ s p. put-part σ s [] p (part-none f);
       }
 
-  started : (vars : Text → ℕ) (answers : List Answer) → Parts (start f vars answers)
-  started vars answers y = go (same span y)
+  started : (vars : Text → ℕ) (replies : List Reply) → Parts (start f vars replies)
+  started vars replies y = go (same span y)
     where
       go : (b : Bool) → Inside f (pick b f [])
       go true = part-all f
       go false = part-none f
 
   -- however many lines have run, each span is a part of the frame
-  pub inside : (vars : Text → ℕ) (answers : List Answer) (k : ℕ) (l r : List Stmt) (τ : State)
-      → run k (start f vars answers) l ≡ running τ r → (x : Text) → Inside f (τ .spans x)
-  inside vars answers k l r τ e = on-run Parts parts-kept k (start f vars answers) τ l r (started vars answers) e
+  pub inside : (vars : Text → ℕ) (replies : List Reply) (k : ℕ) (l r : List Stmt) (τ : State)
+      → run k (start f vars replies) l ≡ running τ r → (x : Text) → Inside f (τ .spans x)
+  inside vars replies k l r τ e = on-run Parts parts-kept k (start f vars replies) τ l r (started vars replies) e

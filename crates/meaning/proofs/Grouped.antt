@@ -1,4 +1,4 @@
--- The chunks of an accepted record's checked runs are the groups of its target's bit fields, in order, and they read in the file's order.
+-- The checked runs of an accepted record are the runs of its target's bit fields, in order, and they read in the file's order.
 -- Assumes nothing.
 use mathlib.Core.Bool.{Bool, true, false}
 use mathlib.Core.List.{List, [], _∷_, _++_, append-assoc, append-nil}
@@ -17,22 +17,26 @@ use Rattle.definitions.specs.Answer.{answer}
 use Rattle.definitions.specs.declared.EndiannessValue.{EndiannessValue}
 use Rattle.definitions.specs.declared.Field.{Field}
 use Rattle.definitions.specs.declared.Refusal.{Refusal}
-use Rattle.meaning.specs.Rule.{widthOf, bitsIn, gather, groups}
-use Rattle.meaning.specs.Runs.{fieldsOf, blockFields, fieldsIn, placed, placedAll, Target, targetOf, setting}
+use Rattle.meaning.specs.Rule.{widthOf, bitsIn, endRun, gather, runs}
+use Rattle.meaning.specs.Runs.{fieldsOf, blockRun, runsIn, placed, placedRun, placedRuns, Target, targetOf, setting}
 use Rattle.meaning.proofs.Entries.{plain, RowsOk, AllFit, Grounds, grounds}
 use Rattle.meaning.proofs.Wellformed.{OrderOf, Ordered, Plain}
 use Rattle.meaning.proofs.Accepted.{EmitOk, unchecked-ok}
 
 -- ---- one more at the end
 
-fields-snoc : (bs : List Block) (b : Block) → fieldsIn (bs ++ (b ∷ [])) ≡ fieldsIn bs ++ blockFields b
-fields-snoc [] b = append-nil (blockFields b)
-fields-snoc (d ∷ bs) b =
-    ap (λ (l : List (List Bit)). blockFields d ++ l) (fields-snoc bs b) ∙ sym (append-assoc (blockFields d) (fieldsIn bs) (blockFields b))
+runs-snoc : (bs : List Block) (b : Block) → runsIn (bs ++ (b ∷ [])) ≡ runsIn bs ++ blockRun b
+runs-snoc [] b = append-nil (blockRun b)
+runs-snoc (d ∷ bs) b =
+    ap (λ (l : List (List (List Bit))). blockRun d ++ l) (runs-snoc bs b) ∙ sym (append-assoc (blockRun d) (runsIn bs) (blockRun b))
 
 chunk-snoc : (cs : List Chunk) (c : Chunk) → fieldsOf (cs ++ (c ∷ [])) ≡ fieldsOf cs ++ (c .fields ∷ [])
 chunk-snoc [] c = refl
 chunk-snoc (d ∷ cs) c = ap (λ (l : List (List Bit)). d .fields ∷ l) (chunk-snoc cs c)
+
+group-snoc : (c : Setting) (gs : List (List Field)) (g : List Field) → placedRun c (gs ++ (g ∷ [])) ≡ placedRun c gs ++ (placed c 0 g ∷ [])
+group-snoc c [] g = refl
+group-snoc c (f ∷ gs) g = ap (λ (l : List (List Bit)). placed c 0 f ∷ l) (group-snoc c gs g)
 
 order-snoc : (o : EndiannessValue) (bs : List Block) (b : Block) → Ordered o bs → OrderOf o b → Ordered o (bs ++ (b ∷ []))
 order-snoc o [] b h k = (k, tt)
@@ -53,88 +57,103 @@ placed-snoc c s (d ∷ g) f =
     ap (λ (l : List Bit). bitAt c s (widthOf c d) d ∷ l)
     (placed-snoc c (s + widthOf c d) g f ∙ ap (λ (n : ℕ). placed c (s + widthOf c d) g ++ (bitAt c n (widthOf c f) f ∷ [])) e)
 
--- ---- steps that are no bit fields
+-- ---- the pending chunks become a run
 
--- what stands in the code, and what is pending
-abbrev every : FieldParser → List (List Bit)
-every p = fieldsIn (p .code) ++ fieldsOf (p .uncheckedCode)
+end-placed : (c : Setting) (gs : List (List Field)) (rs : List (List (List Field)))
+    → placedRuns c (endRun gs rs) ≡ endRun (placedRun c gs) [] ++ placedRuns c rs
+end-placed c [] rs = refl
+end-placed c (g ∷ gs) rs = refl
 
-record Kept (o : EndiannessValue) (p q : FieldParser) : Type 0 where
+-- from p to q nothing is left pending and the open chunk stays
+record Flushed (o : EndiannessValue) (p q : FieldParser) : Type 0 where
   chunk : q .chunk ≡ p .chunk
   shift : q .shift ≡ p .shift
-  all : every q ≡ every p
+  pending : fieldsOf (q .uncheckedCode) ≡ []
+  code : runsIn (q .code) ≡ runsIn (p .code) ++ endRun (fieldsOf (p .uncheckedCode)) []
   order : Ordered o (p .code) → Ordered o (q .code)
 
-abbrev KeptStep : EndiannessValue → FieldParser → Step → Type 0
-KeptStep o p (go q) = Kept o p q
-KeptStep o p (stop why) = Unit {0}
+abbrev FlushedStep : EndiannessValue → FieldParser → Step → Type 0
+FlushedStep o p (go q) = Flushed o p q
+FlushedStep o p (stop why) = Unit {0}
 
-kept-self : (o : EndiannessValue) (p : FieldParser) → Kept o p p
-kept-self o p = record { chunk = refl; shift = refl; all = refl; order = λ h. h }
-
-kept-step : (o : EndiannessValue) (p q : FieldParser) (s : Step) → Kept o p q → KeptStep o q s → KeptStep o p s
-kept-step o p q (go r) h k =
-    record { chunk = k .chunk ∙ h .chunk; shift = k .shift ∙ h .shift; all = k .all ∙ h .all; order = λ m. k .order (h .order m) }
-kept-step o p q (stop why) h k = tt
-
-then-kept : (o : EndiannessValue) (p : FieldParser) (s : Step) (f : FieldParser → Step) → KeptStep o p s → ((q : FieldParser) → KeptStep o q (f q)) → KeptStep o p (andThen s f)
-then-kept o p (go q) f h k = kept-step o p q (f q) h (k q)
-then-kept o p (stop why) f h k = tt
-
-append-kept : (o : EndiannessValue) (p : FieldParser) (b : Block) → Plain b → Kept o p (append p b)
-append-kept o p b h =
+flushed-run : (c : Setting) (p : FieldParser) (cs : List Chunk) → p .uncheckedCode ≡ cs → (bs : List Bit) → FlushedStep (c .endianness) p (flushed c p cs bs)
+flushed-run c p [] e bs =
     record {
       chunk = refl;
       shift = refl;
-      all =
-          ap (λ (l : List (List Bit)). l ++ fieldsOf (p .uncheckedCode))
-          (fields-snoc (p .code) b ∙ ap (λ (l : List (List Bit)). fieldsIn (p .code) ++ l) (h .0) ∙ append-nil (fieldsIn (p .code)));
-      order = λ k. order-snoc o (p .code) b k (h .1 o);
+      pending = ap fieldsOf e;
+      code =
+          sym (append-nil (runsIn (p .code))) ∙ ap (λ (l : List Chunk). runsIn (p .code) ++ endRun (fieldsOf l) []) (sym e);
+      order = λ h. h;
     }
-
-flushed-kept : (c : Setting) (p : FieldParser) (cs : List Chunk) (bs : List Bit) → KeptStep (c .endianness) p (flushed c p cs bs)
-flushed-kept c p [] bs = kept-self (c .endianness) p
-flushed-kept c p (d ∷ ds) [] =
+flushed-run c p (d ∷ ds) e [] =
     record {
       chunk = refl;
       shift = refl;
-      all = append-nil _ ∙ fields-snoc (p .code) (Block.checked (c .endianness) (p .offset) (p .uncheckedCode));
+      pending = refl;
+      code =
+          runs-snoc (p .code) (Block.checked (c .endianness) (p .offset) (p .uncheckedCode))
+          ∙ ap (λ (l : List Chunk). runsIn (p .code) ++ (fieldsOf l ∷ [])) e
+          ∙ ap (λ (l : List Chunk). runsIn (p .code) ++ endRun (fieldsOf l) []) (sym e);
       order = λ k. order-snoc (c .endianness) (p .code) (Block.checked (c .endianness) (p .offset) (p .uncheckedCode)) k refl;
     }
-flushed-kept c p (d ∷ ds) (b ∷ bs) = tt
+flushed-run c p (d ∷ ds) e (b ∷ bs) = tt
 
-check-kept : (c : Setting) (p : FieldParser) → KeptStep (c .endianness) p (checkCode c p)
+check-run : (c : Setting) (p : FieldParser) → FlushedStep (c .endianness) p (checkCode c p)
 unfolding checkCode
-check-kept c p = flushed-kept c p (p .uncheckedCode) (p .chunk)
+check-run c p = flushed-run c p (p .uncheckedCode) refl (p .chunk)
 
-emitted-kept : (o : EndiannessValue) (p : FieldParser) (e : Emit) → EmitOk e → KeptStep o p (emitted p e)
-emitted-kept o p (appends b) h = append-kept o p b (h .1)
-emitted-kept o p silent h = kept-self o p
-emitted-kept o p (refuses why) h = tt
+-- a block of another field behind
+append-flushed : (o : EndiannessValue) (p q : FieldParser) (b : Block) → Plain b → Flushed o p q → Flushed o p (append q b)
+append-flushed o p q b h f =
+    record {
+      chunk = f .chunk;
+      shift = f .shift;
+      pending = f .pending;
+      code = runs-snoc (q .code) b ∙ ap (λ (l : List (List (List Bit))). runsIn (q .code) ++ l) (h .0) ∙ append-nil (runsIn (q .code)) ∙ f .code;
+      order = λ k. order-snoc o (q .code) b (f .order k) (h .1 o);
+    }
+
+-- ---- all the fields
 
 module _ (c : Setting) (rows : RowsOk (c .scope)) where
-  -- ---- all the fields: `gathered` are those of the open chunk
-
   abbrev o : EndiannessValue
   o = c .endianness
 
-  abbrev Grouped : FieldParser → List (List Field) → Step → Type 0
-  Grouped p gs (go q) = (every q ≡ every p ++ placedAll c gs) × (Ordered o (p .code) → Ordered o (q .code))
-  Grouped p gs (stop why) = Unit {0}
+  -- these runs are added to the code
+  abbrev Adds : List Block → List (List (List Field)) → Step → Type 0
+  Adds bs rs (go q) = (runsIn (q .code) ≡ runsIn bs ++ placedRuns c rs) × (Ordered o bs → Ordered o (q .code))
+  Adds bs rs (stop why) = Unit {0}
 
-  -- on from a step that is no bit field
-  kept-then : (p : FieldParser) (gs : List (List Field)) (s : Step) (f : FieldParser → Step) → KeptStep o p s
-      → ((q : FieldParser) → Kept o p q → Grouped q gs (f q)) → Grouped p gs (andThen s f)
-  kept-then p gs (stop why) f h k = tt
-  kept-then p gs (go q) f h k = by (f q) (k q h)
-    where
-      by : (s : Step) → Grouped q gs s → Grouped p gs s
-      by (stop why) m = tt
-      by (go r) m = (m .0 ∙ ap (λ (l : List (List Bit)). l ++ placedAll c gs) (h .all), λ w. m .1 (h .order w))
+  -- the fields of the open chunk, and the groups of the pending ones
+  record Gathering (p : FieldParser) (gathered : List Field) (closed : List (List Field)) : Type 0 where
+    chunk : p .chunk ≡ placed c 0 gathered
+    shift : p .shift ≡ bitsIn c gathered
+    pending : fieldsOf (p .uncheckedCode) ≡ placedRun c closed
 
-  module _ (p : FieldParser) (a : Annotated) (gathered : List Field) (later : List Annotated)
-      (chunk-is : p .chunk ≡ placed c 0 gathered) (shift-is : p .shift ≡ bitsIn c gathered)
-      (rec : (q : FieldParser) (g : List Field) → q .chunk ≡ placed c 0 g → q .shift ≡ bitsIn c g → Grouped q (gather c g (plain later)) (parseAll c q later)) where
+  -- behind a flush: the run that it made, then these
+  flushed-adds : (p q : FieldParser) (closed : List (List Field)) → fieldsOf (p .uncheckedCode) ≡ placedRun c closed → Flushed o p q
+      → (rs : List (List (List Field))) (s : Step) → Adds (q .code) rs s → Adds (p .code) (endRun closed rs) s
+  flushed-adds p q closed e f rs (stop why) m = tt
+  flushed-adds p q closed e f rs (go r) m = (
+    m .0
+        ∙ ap (λ (l : List (List (List Bit))). l ++ placedRuns c rs) (f .code)
+        ∙ append-assoc (runsIn (p .code)) (endRun (fieldsOf (p .uncheckedCode)) []) (placedRuns c rs)
+        ∙ ap (λ (g : List (List Bit)). runsIn (p .code) ++ (endRun g [] ++ placedRuns c rs)) e
+        ∙ ap (λ (l : List (List (List Bit))). runsIn (p .code) ++ l) (sym (end-placed c closed rs)),
+    λ k. m .1 (f .order k),
+  )
+
+  -- at the end
+  ended : (p : FieldParser) (closed : List (List Field)) → fieldsOf (p .uncheckedCode) ≡ placedRun c closed → (s : Step) → FlushedStep o p s
+      → Adds (p .code) (endRun closed []) s
+  ended p closed e (stop why) f = tt
+  ended p closed e (go q) f = flushed-adds p q closed e f [] (go q) (sym (append-nil (runsIn (q .code))), λ k. k)
+
+  module _ (p : FieldParser) (a : Annotated) (gathered : List Field) (closed : List (List Field)) (later : List Annotated)
+      (gathers : Gathering p gathered closed)
+      (rec : (q : FieldParser) (g : List Field) (gs : List (List Field)) → Gathering q g gs
+      → Adds (q .code) (gather c g gs (plain later)) (andThen (parseAll c q later) (done c))) where
     abbrev more : List Field
     more = gathered ++ (a .field ∷ [])
 
@@ -144,95 +163,107 @@ module _ (c : Setting) (rows : RowsOk (c .scope)) where
     abbrev grown : List Bit
     grown = p .chunk ++ (bitOf c (p .shift) a ∷ [])
 
-    -- the groups from here on, by the test of the octet boundary
-    abbrev ahead : Bool → List (List Field)
-    ahead b = elim b as (λ _. List (List Field)) [ true ↦ more ∷ gather c [] (plain later) | false ↦ gather c more (plain later) ]
+    -- on from what the field comes to
+    abbrev on : Step → Step
+    on s = andThen (andThen s λ q. parseAll c q later) (done c)
+
+    -- the runs from a bit field on, by the test of the octet boundary
+    abbrev ahead : Bool → List (List (List Field))
+    ahead b = elim b as (λ _. List (List (List Field))) [
+      | true ↦ gather c [] (closed ++ (more ∷ [])) (plain later)
+      | false ↦ gather c more closed (plain later)
+    ]
 
     module _ (wide : staticWidth (a .fieldSize) ≡ widthOf c (a .field)) where
       shift-now : bitsIn c more ≡ now
-      shift-now = omega (arith, bits-snoc c gathered (a .field), shift-is)
+      shift-now = omega (arith, bits-snoc c gathered (a .field), gathers .shift)
 
       chunk-now : grown ≡ placed c 0 more
       chunk-now =
-          let e : p .shift ≡ 0 + bitsIn c gathered = omega (arith, shift-is) in
-          ap (λ (l : List Bit). l ++ (bitOf c (p .shift) a ∷ [])) chunk-is
+          let e : p .shift ≡ 0 + bitsIn c gathered = omega (arith, gathers .shift) in
+          ap (λ (l : List Bit). l ++ (bitOf c (p .shift) a ∷ [])) (gathers .chunk)
           ∙ ap (λ (n : ℕ). placed c 0 gathered ++ (bitAt c n (staticWidth (a .fieldSize)) (a .field) ∷ [])) e
           ∙ ap (λ (w : ℕ). placed c 0 gathered ++ (bitAt c (0 + bitsIn c gathered) w (a .field) ∷ [])) wide
           ∙ sym (placed-snoc c 0 gathered (a .field))
 
-      closed : (b : Bool) → Grouped p (more ∷ gather c [] (plain later)) (andThen (elim b [ true ↦ stop Refusal.ScalarTooWide | false ↦ go (closeChunk p now grown) ]) λ q. parseAll c q later)
-      closed true = tt
-      closed false = by (parseAll c (closeChunk p now grown) later) (rec (closeChunk p now grown) [] refl refl)
-        where
-          first : every (closeChunk p now grown) ≡ every p ++ (placed c 0 more ∷ [])
-          first =
-              ap (λ (l : List (List Bit)). fieldsIn (p .code) ++ l) (chunk-snoc (p .uncheckedCode) (record { nr = p .chunkNr; fields = grown }))
-              ∙ sym (append-assoc (fieldsIn (p .code)) (fieldsOf (p .uncheckedCode)) (grown ∷ []))
-              ∙ ap (λ (x : List Bit). every p ++ (x ∷ [])) chunk-now
+      pending-now : fieldsOf (closeChunk p now grown .uncheckedCode) ≡ placedRun c (closed ++ (more ∷ []))
+      pending-now =
+          chunk-snoc (p .uncheckedCode) (record { nr = p .chunkNr; fields = grown })
+          ∙ ap (λ (l : List (List Bit)). l ++ (grown ∷ [])) (gathers .pending)
+          ∙ ap (λ (x : List Bit). placedRun c closed ++ (x ∷ [])) chunk-now
+          ∙ sym (group-snoc c closed more)
 
-          by : (s : Step) → Grouped (closeChunk p now grown) (gather c [] (plain later)) s → Grouped p (more ∷ gather c [] (plain later)) s
-          by (stop why) m = tt
-          by (go q) m = (
-            m .0
-                ∙ ap (λ (l : List (List Bit)). l ++ placedAll c (gather c [] (plain later))) first
-                ∙ append-assoc (every p) (placed c 0 more ∷ []) (placedAll c (gather c [] (plain later))),
-            m .1,
-          )
+      closes : (b : Bool)
+          → Adds (p .code) (gather c [] (closed ++ (more ∷ [])) (plain later))
+          (on (elim b [ true ↦ stop Refusal.ScalarTooWide | false ↦ go (closeChunk p now grown) ]))
+      closes true = tt
+      closes false =
+          rec (closeChunk p now grown) [] (closed ++ (more ∷ [])) (record { chunk = refl; shift = refl; pending = pending-now })
 
       -- at an octet boundary or not
       bounded : (b : Bool)
-          → Grouped p (ahead b)
-          (andThen (elim b [
+          → Adds (p .code) (ahead b)
+          (on (elim b [
             | true ↦ elim (ltb 64 now) [ true ↦ stop Refusal.ScalarTooWide | false ↦ go (closeChunk p now grown) ]
             | false ↦ go (openChunk p now grown)
-          ]) λ q. parseAll c q later)
-      bounded true = closed (ltb 64 now)
+          ]))
+      bounded true = closes (ltb 64 now)
       bounded false =
-          same (parseAll c (openChunk p now grown) later) (rec (openChunk p now grown) more chunk-now (sym shift-now))
-        where
-          same : (s : Step) → Grouped (openChunk p now grown) (gather c more (plain later)) s → Grouped p (gather c more (plain later)) s
-          same (stop why) m = tt
-          same (go q) m = m
+          rec (openChunk p now grown) more closed (record { chunk = chunk-now; shift = sym shift-now; pending = gathers .pending })
 
-      bit-grouped : Grouped p (ahead (eqb (bitsIn c more % 8) 0)) (andThen (parseBitField c p a) λ q. parseAll c q later)
+      bit-adds : Adds (p .code) (ahead (eqb (bitsIn c more % 8) 0)) (on (parseBitField c p a))
       unfolding parseBitField
-      bit-grouped =
-          subst (λ (n : ℕ). Grouped p (ahead (eqb (n % 8) 0)) (andThen (parseBitField c p a) λ q. parseAll c q later))
+      bit-adds =
+          subst (λ (n : ℕ). Adds (p .code) (ahead (eqb (n % 8) 0)) (on (parseBitField c p a)))
           (sym shift-now) (bounded (eqb (now % 8) 0))
 
-    other-grouped : raggedField (c .source) (c .scope) (a .field) ≡ false → Grouped p (gather c gathered (plain later))
-        (andThen (andThen (checkCode c p) λ q. emitted q (parseUnchecked c (q .shift) a later)) λ q. parseAll c q later)
-    other-grouped whole =
-        kept-then p (gather c gathered (plain later)) (andThen (checkCode c p) λ q. emitted q (parseUnchecked c (q .shift) a later)) (λ q. parseAll c q later)
-        (then-kept o p (checkCode c p) (λ q. emitted q (parseUnchecked c (q .shift) a later)) (check-kept c p)
-        (λ q. emitted-kept o q (parseUnchecked c (q .shift) a later) (unchecked-ok c rows (q .shift) a later whole)))
-        (λ q k. rec q gathered (k .chunk ∙ chunk-is) (k .shift ∙ shift-is))
+    -- any other field: the run ends
+    behind : (q : FieldParser) → Flushed o p q
+        → Adds (p .code) (endRun closed (gather c gathered [] (plain later))) (andThen (parseAll c q later) (done c))
+    behind q f =
+        flushed-adds p q closed (gathers .pending) f (gather c gathered [] (plain later)) (andThen (parseAll c q later) (done c))
+        (rec q gathered [] (record { chunk = f .chunk ∙ gathers .chunk; shift = f .shift ∙ gathers .shift; pending = f .pending }))
 
-    field-grouped : raggedField (c .source) (c .scope) (a .field) ≡ false → (b : Bool) → (b ≡ true → staticWidth (a .fieldSize) ≡ widthOf c (a .field))
-        → Grouped p
+    emitted-adds : (q : FieldParser) → Flushed o p q → (e : Emit) → EmitOk e
+        → Adds (p .code) (endRun closed (gather c gathered [] (plain later))) (on (emitted q e))
+    emitted-adds q f (appends b) ok = behind (append q b) (append-flushed o p q b (ok .1) f)
+    emitted-adds q f silent ok = behind q f
+    emitted-adds q f (refuses why) ok = tt
+
+    other-adds : raggedField (c .source) (c .scope) (a .field) ≡ false → (s : Step) → FlushedStep o p s
+        → Adds (p .code) (endRun closed (gather c gathered [] (plain later)))
+        (on (andThen s λ q. emitted q (parseUnchecked c (q .shift) a later)))
+    other-adds whole (stop why) f = tt
+    other-adds whole (go q) f = emitted-adds q f (parseUnchecked c (q .shift) a later) (unchecked-ok c rows (q .shift) a later whole)
+
+    field-adds : raggedField (c .source) (c .scope) (a .field) ≡ false → (b : Bool) → (b ≡ true → staticWidth (a .fieldSize) ≡ widthOf c (a .field))
+        → Adds (p .code)
         (elim b [
-          | true ↦ elim (eqb (bitsIn c more % 8) 0) [ true ↦ more ∷ gather c [] (plain later) | false ↦ gather c more (plain later) ]
-          | false ↦ gather c gathered (plain later)
+          | true ↦ elim (eqb (bitsIn c more % 8) 0) [
+            | true ↦ gather c [] (closed ++ (more ∷ [])) (plain later)
+            | false ↦ gather c more closed (plain later)
+          ]
+          | false ↦ endRun closed (gather c gathered [] (plain later))
         ])
-        (andThen (elim b [
+        (on (elim b [
           | true ↦ parseBitField c p a
           | false ↦ andThen (checkCode c p) λ q. emitted q (parseUnchecked c (q .shift) a later)
-        ]) λ q. parseAll c q later)
-    field-grouped whole true wide = bit-grouped (wide refl)
-    field-grouped whole false wide = other-grouped whole
+        ]))
+    field-adds whole true wide = bit-adds (wide refl)
+    field-adds whole false wide = other-adds whole (checkCode c p) (check-run c p)
 
-  all-grouped : (p : FieldParser) (gathered : List Field) (xs : List Annotated) → AllFit c xs → p .chunk ≡ placed c 0 gathered → p .shift ≡ bitsIn c gathered
-      → Grouped p (gather c gathered (plain xs)) (parseAll c p xs)
+  all-adds : (p : FieldParser) (gathered : List Field) (closed : List (List Field)) (xs : List Annotated) → AllFit c xs → Gathering p gathered closed
+      → Adds (p .code) (gather c gathered closed (plain xs)) (andThen (parseAll c p xs) (done c))
   unfolding gather parseAll parse
-  all-grouped p gathered [] fit e f = (sym (append-nil (every p)), λ h. h)
-  all-grouped p gathered (a ∷ later) fit e f =
-      field-grouped p a gathered later e f (λ q g u v. all-grouped q g later (fit .1) u v) (fit .0 .whole) (isBit c (a .field)) (fit .0 .wide)
+  all-adds p gathered closed [] fit h = ended p closed (h .pending) (checkCode c p) (check-run c p)
+  all-adds p gathered closed (a ∷ later) fit h =
+      field-adds p a gathered closed later h (λ q g gs k. all-adds q g gs later (fit .1) k) (fit .0 .whole) (isBit c (a .field)) (fit .0 .wide)
 
 -- ---- the answer
 
--- the chunks are the groups of the target's fields, and read in the file's order
+-- the checked runs are the runs of the target's fields, and read in the file's order
 pub record Shaped (c : Setting) (bs : List Block) : Type 0 where
-  pub chunks : fieldsIn bs ≡ placedAll c (groups c)
+  pub runs-are : runsIn bs ≡ placedRuns c (runs c)
   pub order : Ordered (c .endianness) bs
 
 abbrev OutcomeShaped : Setting → Outcome → Type 0
@@ -240,24 +271,15 @@ OutcomeShaped c (refused why) = Unit {0}
 OutcomeShaped c (accepted bs) = Shaped c bs
 
 lower-shaped : (c : Setting) → RowsOk (c .scope) → (xs : List Annotated) → AllFit c xs → plain xs ≡ c .fields → OutcomeShaped c (lowerFields c xs)
-unfolding lowerFields checkCode
+unfolding lowerFields
 lower-shaped c rows xs fit are =
-    by (parseAll c new xs) (subst (λ (fs : List Field). Grouped c rows new (gather c [] fs) (parseAll c new xs)) are (all-grouped c rows new [] xs fit refl refl))
+    by (andThen (parseAll c new xs) (done c))
+    (subst (λ (fs : List Field). Adds c rows [] (gather c [] [] fs) (andThen (parseAll c new xs) (done c))) are
+    (all-adds c rows new [] [] xs fit (record { chunk = refl; shift = refl; pending = refl })))
   where
-    end : (p : FieldParser) → every p ≡ placedAll c (groups c) → Ordered (c .endianness) (p .code) → (cs : List Chunk) → p .uncheckedCode ≡ cs → (bs : List Bit)
-        → OutcomeShaped c (codeOf (flushed c p cs bs))
-    end p h k [] e bs =
-        record { chunks = sym (append-nil (fieldsIn (p .code))) ∙ ap (λ (l : List Chunk). fieldsIn (p .code) ++ fieldsOf l) (sym e) ∙ h; order = k }
-    end p h k (d ∷ ds) e [] =
-        record {
-          chunks = fields-snoc (p .code) (Block.checked (c .endianness) (p .offset) (p .uncheckedCode)) ∙ h;
-          order = order-snoc (c .endianness) (p .code) (Block.checked (c .endianness) (p .offset) (p .uncheckedCode)) k refl;
-        }
-    end p h k (d ∷ ds) e (b ∷ bs) = tt
-
-    by : (s : Step) → Grouped c rows new (groups c) s → OutcomeShaped c (codeOf (andThen s (done c)))
+    by : (s : Step) → Adds c rows [] (runs c) s → OutcomeShaped c (codeOf s)
     by (stop why) m = tt
-    by (go p) m = end p (m .0) (m .1 tt) (p .uncheckedCode) refl (p .chunk)
+    by (go p) m = record { runs-are = m .0; order = m .1 tt }
 
 pub shaped : (s : Text) (bs : List Block) → answer s ≡ accepted bs → (t : Target) → targetOf s ≡ some t → Shaped (setting s t) bs
 shaped s bs e t f =

@@ -1,9 +1,11 @@
 -- Demands is to be read first; the others follow from the statements down. What each holds is said in its first lines.
 pub mod Demands
 pub mod Cases
-pub mod Products
+pub mod Forms
+pub mod Outside
 pub mod Backing
 pub mod Printed
+pub mod Listed
 pub mod Reaching
 pub mod Located
 pub mod Grouped

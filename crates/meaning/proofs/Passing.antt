@@ -8,7 +8,7 @@ use native.Mathlib.Omega.{arith}
 use lib.ListN.{length, length-append}
 use Rattle.definitions.specs.Lines.{Line, Stmt}
 use Rattle.definitions.specs.Blocks.{body}
-use Rattle.meaning.specs.Machine.{State, Outcome, running, exec, step, onward, run, excusing}
+use Rattle.meaning.specs.Machine.{State, Standing, running, exec, step, onward, run, excusing}
 use Rattle.meaning.specs.Runs.{Passes}
 use Rattle.meaning.proofs.Steps.{Closed, Leaves, on-step, went-on}
 use Rattle.meaning.proofs.Wp.{Post, wpLines, On, on-exec, line-map}
@@ -20,7 +20,7 @@ any-state =
     record {
       var = λ σ x n p. p;
       turns = λ σ n p. p;
-      answers = λ σ l p. p;
+      replies = λ σ l p. p;
       copy = λ σ x s p. p;
       part = λ σ x s at n p. p;
       rest = λ σ s n p. p;
@@ -68,7 +68,7 @@ through (suc k) σ υ (s ∷ a) l r e h =
           more = t .more;
           state = t .state;
           count = omega (arith, t .count);
-          comes = ap (λ (o : Outcome). onward o (λ ρ p. run (t .steps) ρ p)) eo ∙ ap (λ (p : List Stmt). run (t .steps) τ p) g ∙ t .comes;
+          comes = ap (λ (o : Standing). onward o (λ ρ p. run (t .steps) ρ p)) eo ∙ ap (λ (p : List Stmt). run (t .steps) τ p) g ∙ t .comes;
           goes = t .goes;
         }
 
@@ -82,7 +82,7 @@ run-add (suc i) j σ τ [] r e = impossible (cc)
 run-add (suc i) j σ τ (s ∷ l) r e =
     let w = went-on (step excusing σ s l) (λ ρ q. run i ρ q) τ r e in
     let n : suc i + j ≡ suc (i + j) = omega arith in
-    ap (λ (m : ℕ). run m σ (s ∷ l)) n ∙ ap (λ (o : Outcome). onward o (λ ρ q. run (i + j) ρ q)) (w .2) ∙ run-add i j (w .0) τ (w .1) r (w .3)
+    ap (λ (m : ℕ). run m σ (s ∷ l)) n ∙ ap (λ (o : Standing). onward o (λ ρ q. run (i + j) ρ q)) (w .2) ∙ run-add i j (w .0) τ (w .1) r (w .3)
 
 -- ---- lines without loops
 
@@ -114,7 +114,7 @@ passed (x ∷ b) Q l r σ υ zero w e h =
     absurd (omega (arith, ap length f, body-length b l))
 passed (x ∷ b) Q l r σ υ (suc k) w e h =
     let g = went-on (exec excusing σ x (body b l)) (λ τ q. run k τ q) υ r e in
-    next (g .0) (g .1) (g .2) (subst (λ (o : Outcome). On o (λ τ q. Next b Q l τ q)) (g .2) (next-line x b Q l σ w))
+    next (g .0) (g .1) (g .2) (subst (λ (o : Standing). On o (λ τ q. Next b Q l τ q)) (g .2) (next-line x b Q l σ w))
     (λ τ v f. passed b Q l r τ υ k v f h) (g .3)
   where
     stuck : (j : ℕ) (τ : State) → run j τ (Stmt.one Line.fail ∷ body b l) ≡ running υ r → ⊥
@@ -132,7 +132,7 @@ passed (x ∷ b) Q l r σ υ (suc k) w e h =
           more = t .more;
           state = t .state;
           count = omega (arith, t .count);
-          comes = ap (λ (o : Outcome). onward o (λ ρ p. run (length b) ρ p)) eo ∙ ap (λ (p : List Stmt). run (length b) τ p) g ∙ t .comes;
+          comes = ap (λ (o : Standing). onward o (λ ρ p. run (length b) ρ p)) eo ∙ ap (λ (p : List Stmt). run (length b) τ p) g ∙ t .comes;
           goes = t .goes;
           through-all = (τ, eo ∙ ap (λ (p : List Stmt). running τ p) g, t .through-all);
           holds = t .holds;
@@ -143,7 +143,7 @@ passed (x ∷ b) Q l r σ υ (suc k) w e h =
 pub passes-hold : (b : List Line) (Q : Post) (l : List Stmt) (σ τ : State) → wpLines b Q σ → Passes b l σ τ → Q τ
 passes-hold [] Q l σ τ w p = subst Q p w
 passes-hold (x ∷ b) Q l σ τ w p =
-    by (λ v. passes-hold b Q l (p .0) τ v (p .2)) (subst (λ (o : Outcome). On o (λ ρ q. Next b Q l ρ q)) (p .1) (next-line x b Q l σ w))
+    by (λ v. passes-hold b Q l (p .0) τ v (p .2)) (subst (λ (o : Standing). On o (λ ρ q. Next b Q l ρ q)) (p .1) (next-line x b Q l σ w))
   where
     by : (wpLines b Q (p .0) → Q τ) → Next b Q l (p .0) (body b l) → Q τ
     by rec (on g v) = rec v

@@ -4,16 +4,16 @@ use mathlib.Core.Path.{_≡_, refl, sym, ap, _∙_, subst}
 use mathlib.Core.List.{List, [], _∷_, _++_, append-assoc, append-nil}
 use Prim.Native.Nat.{ℕ, _+_, _*_, _-_, _/_, _≤_}
 use native.Mathlib.Omega.{arith}
-use lib.ListN.{length, length-drop}
+use lib.ListN.{length, drop, length-drop}
 use Rattle.definitions.specs.Bytes.{Text}
 use Rattle.definitions.specs.Lines.{Expr, Line, Stmt}
 use Rattle.definitions.specs.Blocks.{span, Chunk, widths, chunkName, chunkLines, chunksLines, checkSize, body, Block, program}
 use Rattle.definitions.specs.FieldParser.{Setting, kindOf, accepted}
 use Rattle.definitions.specs.Answer.{answer}
 use Rattle.definitions.specs.declared.EndiannessValue.{EndiannessValue}
-use Rattle.meaning.specs.Machine.{Answer, State, start, Outcome, running, fetch, run}
+use Rattle.meaning.specs.Machine.{Reply, State, start, Standing, running, fetch, run}
 use Rattle.meaning.specs.Rule.{Octets, widthOf, bitsIn}
-use Rattle.meaning.specs.Runs.{CheckedRun, runLines, behindRun, allWidths, Passes, RunToItsEnd, placed}
+use Rattle.meaning.specs.Runs.{CheckedRun, runLines, behindRun, allWidths, Passes, ComeTo, RunToItsEnd, placed}
 use Rattle.meaning.specs.Places.{BitField, groupOf, ChunkOf, atChunk, linesAhead, source, ownLines, behindField, atField, ruled, Holds, Given}
 use Rattle.meaning.proofs.Items.{offsets}
 use Rattle.meaning.proofs.Wellformed.{SparesAll, ChunkOk, ChunksOk, CheckedOk, BlocksOk}
@@ -50,7 +50,7 @@ module _ (bs : List Block) (r : CheckedRun bs) (σ υ : State) (k : ℕ) (l : Li
       (subst (λ (ds : List Block). run k σ (program ds) ≡ running υ l) (r .blocks-are) came) h)
 
   -- one that has come behind it passed all of it without a `return false`
-  pub passed-all : CheckedOk (r .number) (r .chunks) → length l ≤ length (behindRun r) → RunToItsEnd bs r σ k
+  passed-all : CheckedOk (r .number) (r .chunks) → length l ≤ length (behindRun r) → RunToItsEnd bs r σ k
   passed-all ok h =
       let t = stood-before (omega (arith, body-length (runLines r) (behindRun r))) in
       let p =
@@ -64,6 +64,19 @@ module _ (bs : List Block) (r : CheckedRun bs) (σ υ : State) (k : ℕ) (l : Li
         after = p .state;
         passed = p .through-all;
       }
+
+-- at the present step or at an earlier one
+pub come-behind : (bs : List Block) (r : CheckedRun bs) → CheckedOk (r .number) (r .chunks) → (σ : State) (k : ℕ) → ComeTo (behindRun r) bs σ k → RunToItsEnd bs r σ k
+come-behind bs r ok σ k m =
+    let p : RunToItsEnd bs r σ (m .steps) = passed-all bs r σ (m .state) (m .steps) (m .left) (m .stood) ok (m .short) in
+    record {
+      steps = p .steps;
+      within = omega (arith, p .within, m .within);
+      before = p .before;
+      stood = p .stood;
+      after = p .after;
+      passed = p .passed;
+    }
 
 -- ---- a bit field's chunk in its run
 
@@ -99,17 +112,30 @@ module _ (bs : List Block) (c : Setting) (d : BitField c) (h : ChunkOf bs c d) (
   abbrev Enough : Post
   Enough τ = bitsIn c (groupOf d) / 8 ≤ held τ
 
-  before-enough : (σ : State) → wpLines before Enough σ
+  abbrev Here : State → Post
+  Here ρ τ = Enough τ × (τ .spans span ≡ drop (allWidths (h .earlier) / 8) (ρ .spans span))
+
+  front-ok : (a b : List Chunk) → ChunksOk (a ++ b) → ChunksOk a
+  front-ok [] b k = tt
+  front-ok (x ∷ a) b k = (k .0, front-ok a b (k .1))
+
+  earlier-octets : offsets (h .earlier) ≡ allWidths (h .earlier) / 8
+  earlier-octets = omega (arith, eight-widths (h .earlier) (front-ok (h .earlier) (its ∷ h .later) (subst ChunksOk (h .chunks-are) (ok .chunks))))
+
+  before-enough : (σ : State) → wpLines before (Here σ) σ
   before-enough σ = (
     λ _. tt,
     λ le.
         let sum : offsets (h .inRun .chunks) ≡ offsets (h .earlier) + (widths (placed c 0 (groupOf d)) / 8 + offsets (h .later)) =
         ap offsets (h .chunks-are) ∙ offsets-split (h .earlier) its (h .later) in
         let w : widths (placed c 0 (groupOf d)) / 8 ≡ bitsIn c (groupOf d) / 8 = ap (λ (n : ℕ). n / 8) (placed-widths c 0 (groupOf d)) in
-        subst (λ (ls : List Line). wpLines ls Enough σ) (append-nil (chunksLines (c .endianness) (h .earlier)))
-        (chunks-then (c .endianness) (h .earlier) [] Enough σ (omega (arith, ok .number, sum))
-        (λ τ e. enough (h .inRun .number) (offsets (h .earlier)) (widths (placed c 0 (groupOf d)) / 8) (offsets (h .later)) (bitsIn c (groupOf d) / 8) (held σ) (held τ)
-        (ok .number ∙ sum) w le (ap length (e .0) ∙ length-drop (offsets (h .earlier)) (σ .spans span)))),
+        subst (λ (ls : List Line). wpLines ls (Here σ) σ) (append-nil (chunksLines (c .endianness) (h .earlier)))
+        (chunks-then (c .endianness) (h .earlier) [] (Here σ) σ (omega (arith, ok .number, sum))
+        (λ τ e. (
+          enough (h .inRun .number) (offsets (h .earlier)) (widths (placed c 0 (groupOf d)) / 8) (offsets (h .later)) (bitsIn c (groupOf d) / 8) (held σ) (held τ)
+              (ok .number ∙ sum) w le (ap length (e .0) ∙ length-drop (offsets (h .earlier)) (σ .spans span)),
+          e .0 ∙ ap (λ (n : ℕ). drop n (σ .spans span)) earlier-octets,
+        ))),
   )
     where
       enough : (n a b z m s t : ℕ) → n ≡ a + (b + z) → b ≡ m → n ≤ s → t ≡ s - a → m ≤ t
@@ -134,14 +160,22 @@ module _ (bs : List Block) (c : Setting) (d : BitField c) (h : ChunkOf bs c d) (
   -- from where it stands before the chunk: the lines ahead of the field, and its own
   module _ (σ : State) (k steps more : ℕ) (found υ : State) (l : List Stmt) (count : steps + more ≡ k)
       (stood : run steps σ (program bs) ≡ running found (atChunk bs c d h)) (goes : run more found (atChunk bs c d h) ≡ running υ l)
-      (short : length l ≤ length (atField bs c d h)) (octets : Octets (found .spans span)) (room : Enough found) where
+      (short : length l ≤ length (atField bs c d h)) (octets : Octets (found .spans span)) (room : Enough found)
+      (checkSteps : ℕ) (early : checkSteps ≤ steps) (ρ : State) (stoodBefore : run checkSteps σ (program bs) ≡ running ρ (body (runLines (h .inRun)) (behindRun (h .inRun))))
+      (place : found .spans span ≡ drop (allWidths (h .earlier) / 8) (ρ .spans span)) where
     from-field : Passed (linesAhead bs c d h) (Taken bs c d h found octets room spares) (atField bs c d h) found more υ l → Given bs c d h σ k
     from-field q =
         record {
+          lines-are = at-chunk bs c d h;
+          checkSteps = checkSteps;
+          atCheck = ρ;
+          stood-before = stoodBefore;
           steps = steps;
+          check-first = early;
           within = omega arith;
           found = found;
           stood = stood;
+          place = place;
           at = q .state;
           passed = q .through-all;
           takes = fetched (q .state) (q .holds);
@@ -152,7 +186,7 @@ module _ (bs : List Block) (c : Setting) (d : BitField c) (h : ChunkOf bs c d) (
         Holding f τ = Holds τ (kindOf c (d .field .desc)) (widthOf c (d .field)) (ruled c d (f .spans span))
 
         fetched : (at : State) → Taken bs c d h found octets room spares at
-            → (τ : State) × ((f : ℕ → State → Outcome) → fetch at (source bs c d h) f ≡ f (ruled c d (found .spans span)) τ)
+            → (τ : State) × ((f : ℕ → State → Standing) → fetch at (source bs c d h) f ≡ f (ruled c d (found .spans span)) τ)
         fetched at t =
             let f = taken-is-fetched at (source bs c d h) (t .1) in
             (f .0, λ g. f .1 g ∙ ap (λ (n : ℕ). g n (f .0)) (t .0))
@@ -164,13 +198,13 @@ module _ (bs : List Block) (c : Setting) (d : BitField c) (h : ChunkOf bs c d) (
         (subst (λ (ls : List Stmt). run more found ls ≡ running υ l) (at-chunk bs c d h) goes) short)
 
   -- a run that has come to the field's own lines, or further
-  module _ (frame : List ℕ) (octets : Octets frame) (vars : Text → ℕ) (answers : List Answer) (k : ℕ) (υ : State) (l : List Stmt)
-      (came : run k (start frame vars answers) (program bs) ≡ running υ l) (short : length l ≤ length (atField bs c d h)) where
+  module _ (frame : List ℕ) (octets : Octets frame) (vars : Text → ℕ) (replies : List Reply) (k : ℕ) (υ : State) (l : List Stmt)
+      (came : run k (start frame vars replies) (program bs) ≡ running υ l) (short : length l ≤ length (atField bs c d h)) where
     abbrev σ : State
-    σ = start frame vars answers
+    σ = start frame vars replies
 
     stood-there : (steps more : ℕ) (ρ : State) → run steps σ (program bs) ≡ running ρ (body (runLines (h .inRun)) (behindRun (h .inRun)))
-        → Passed before Enough (atChunk bs c d h) ρ more υ l → (found : State) → run (length before) ρ (body before (atChunk bs c d h)) ≡ running found (atChunk bs c d h)
+        → Passed before (Here ρ) (atChunk bs c d h) ρ more υ l → (found : State) → run (length before) ρ (body before (atChunk bs c d h)) ≡ running found (atChunk bs c d h)
         → run (steps + length before) σ (program bs) ≡ running found (atChunk bs c d h)
     stood-there steps more ρ comes p found e =
         run-add steps (length before) σ ρ (program bs) (body (runLines (h .inRun)) (behindRun (h .inRun))) comes
@@ -178,21 +212,45 @@ module _ (bs : List Block) (c : Setting) (d : BitField c) (h : ChunkOf bs c d) (
         ∙ e
 
     from-run : (t : Through (program bs) (body (runLines (h .inRun)) (behindRun (h .inRun))) σ k υ l)
-        → Passed before Enough (atChunk bs c d h) (t .state) (t .more) υ l → Given bs c d h σ k
+        → Passed before (Here (t .state)) (atChunk bs c d h) (t .state) (t .more) υ l → Given bs c d h σ k
     from-run t p =
-        from-chunk σ k (t .steps + length before) (p .more) (p .state) υ l (omega (arith, t .count, p .count)) (stood p) (p .goes) short (bytes p) (p .holds)
+        from-chunk σ k (t .steps + length before) (p .more) (p .state) υ l (omega (arith, t .count, p .count)) (stood p) (p .goes) short (bytes p) (p .holds .0) (t .steps) (omega arith) (t .state) (t .comes)
+        (p .holds .1)
       where
-        stood : (q : Passed before Enough (atChunk bs c d h) (t .state) (t .more) υ l) → run (t .steps + length before) σ (program bs) ≡ running (q .state) (atChunk bs c d h)
+        stood : (q : Passed before (Here (t .state)) (atChunk bs c d h) (t .state) (t .more) υ l) → run (t .steps + length before) σ (program bs) ≡ running (q .state) (atChunk bs c d h)
         stood q = stood-there (t .steps) (t .more) (t .state) (t .comes) q (q .state) (q .comes)
 
-        bytes : (q : Passed before Enough (atChunk bs c d h) (t .state) (t .more) υ l) → Octets (q .state .spans span)
-        bytes q = octets-inside frame octets vars answers (t .steps + length before) (program bs) (atChunk bs c d h) (q .state) (stood q)
+        bytes : (q : Passed before (Here (t .state)) (atChunk bs c d h) (t .state) (t .more) υ l) → Octets (q .state .spans span)
+        bytes q = octets-inside frame octets vars replies (t .steps + length before) (program bs) (atChunk bs c d h) (q .state) (stood q)
 
     from-through : Through (program bs) (body (runLines (h .inRun)) (behindRun (h .inRun))) σ k υ l → Given bs c d h σ k
     from-through t =
         from-run t
-        (passed before Enough (atChunk bs c d h) l (t .state) υ (t .more) (before-enough (t .state))
+        (passed before (Here (t .state)) (atChunk bs c d h) l (t .state) υ (t .more) (before-enough (t .state))
         (subst (λ (ls : List Stmt). run (t .more) (t .state) ls ≡ running υ l) run-split (t .goes)) (omega (arith, chunk-in-field)))
 
-    pub given-bits : Given bs c d h σ k
-    given-bits = from-through (stood-before bs (h .inRun) σ υ k l came (omega (arith, field-in-run)))
+    at-present : Given bs c d h σ k
+    at-present = from-through (stood-before bs (h .inRun) σ υ k l came (omega (arith, field-in-run)))
+
+  -- at the present step or at an earlier one
+  pub given-bits : (frame : List ℕ) → Octets frame → (vars : Text → ℕ) (replies : List Reply) (k : ℕ)
+      → ComeTo (atField bs c d h) bs (start frame vars replies) k → Given bs c d h (start frame vars replies) k
+  given-bits frame octets vars replies k m =
+      let g : Given bs c d h (start frame vars replies) (m .steps) =
+      at-present frame octets vars replies (m .steps) (m .state) (m .left) (m .stood) (m .short) in
+      record {
+        lines-are = g .lines-are;
+        checkSteps = g .checkSteps;
+        atCheck = g .atCheck;
+        stood-before = g .stood-before;
+        steps = g .steps;
+        check-first = g .check-first;
+        within = omega (arith, g .within, m .within);
+        found = g .found;
+        stood = g .stood;
+        place = g .place;
+        at = g .at;
+        passed = g .passed;
+        takes = g .takes;
+        holds = g .holds;
+      }

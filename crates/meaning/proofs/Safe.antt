@@ -5,17 +5,19 @@ use mathlib.Core.List.{List, [], _∷_, _++_, append-assoc}
 use Prim.Native.Nat.{ℕ, zero, suc, _-_, _≤_}
 use native.Mathlib.Omega.{arith}
 use lib.ListN.{length, take, drop, length-drop, length-take}
+use lib.IntN.{pos, _-ℤ_}
 use Rattle.definitions.specs.Bytes.{text, Text}
 use Rattle.definitions.specs.Lines.{Expr, Test, Before, Line, Stmt}
-use Rattle.meaning.specs.Machine.{put, State, putVar, num, minus, eval, beyond, run, excusing}
+use Rattle.meaning.specs.Machine.{put, State, putVar, num, eval, running, beyond, run, excusing}
+use Rattle.meaning.specs.Plain.{PlainNext}
 use Rattle.definitions.specs.Blocks.{span, roomFor, gone, missing, allBut, actualSize, prefix, named, bare, startName, sizeName, Array, fieldLines, Block, blockLines, program}
 use Rattle.definitions.specs.declared.Modifier.{Modifier}
 use Rattle.definitions.specs.declared.Arrays.{Arrays}
 use Rattle.meaning.proofs.Wellformed.{Apart, ElemOk, BlockOk, BlocksOk}
 use Rattle.meaning.proofs.Names.{apart-ends, put-other, put-same}
-use Rattle.meaning.proofs.Wp.{Fine, Up, Safe, up, down, lines-up, when-up, held}
+use Rattle.meaning.proofs.Wp.{Fine, right-in, Up, Safe, up, down, lines-up, when-up, held}
 use Rattle.meaning.proofs.Moves.{run-safe}
-use Rattle.meaning.proofs.Pieces.{Sizeless, known, minus-num, by-check, line, Kept, cut-run}
+use Rattle.meaning.proofs.Pieces.{Sizeless, sizeless-operands, known, minus-num, natural-is, by-check, line, Kept, cut-run}
 use Rattle.meaning.proofs.Arrays.{array-up, own-span}
 
 changed-sizeless : (c : Modifier) (x : Text) → Sizeless (actualSize c x)
@@ -46,10 +48,11 @@ module _ (k : ℕ) (l : List Stmt) (s : Safe l) (σ : State) where
   payload-up x v c ne =
       let e : Expr = actualSize c v in
       line k (roomFor e) _ σ
+      (right-in σ _ _ e (sizeless-operands e (changed-sizeless c v) σ)
       (by-check (eval excusing σ e) (held σ) _
       (λ n ev le.
       lines-up k (Line.front Before.old x span e ∷ Line.skip span e ∷ []) l σ
-      (cut-run x e ne (changed-sizeless c v) x (Up k l) σ n ev le (λ τ _. up l s τ k))))
+      (cut-run x e ne (changed-sizeless c v) x (Up k l) σ n ev le (λ τ _. up l s τ k)))))
 
   upTo-up : (x : Text) (t : ℕ) → Apart x span → Up k (blockLines (Block.payloadUpTo x t) l) σ
   upTo-up x t ne =
@@ -58,13 +61,18 @@ module _ (k : ℕ) (l : List Stmt) (s : Safe l) (σ : State) where
         λ le.
             let p : List ℕ = take (held σ - t) (σ .spans span) in
             let other : put (σ .spans) x p span ≡ σ .spans span = put-other (σ .spans) x p span ne in
-            lines-up k (Line.front Before.old x span (allBut t) ∷ Line.skip span (allBut t) ∷ []) l σ
-            (known (minus (held σ) t) (held σ - t) _ (minus-num (held σ) t le) (
-              omega arith,
-              known (minus (length (put (σ .spans) x p span)) t) (held σ - t) _
-                  (ap (λ (q : List ℕ). minus (length q) t) other ∙ minus-num (held σ) t le)
-                  (omega (arith, ap length other), up l s _ k),
-            )),
+            lines-up k (Line.front Before.old x span (allBut t) ∷ Line.skip span (allBut t) ∷ []) l σ (
+              (tt, tt, tt, tt),
+              known (num (pos (held σ) -ℤ pos t)) (held σ - t) _ (minus-num (held σ) t le) (
+                omega arith,
+                (
+                  (tt, tt, tt, tt),
+                  known (num (pos (length (put (σ .spans) x p span)) -ℤ pos t)) (held σ - t) _
+                      (ap (λ (q : List ℕ). num (pos (length q) -ℤ pos t)) other ∙ minus-num (held σ) t le)
+                      (omega (arith, ap length other), up l s _ k),
+                ),
+              ),
+            ),
       )
 
   -- a parser on the part before the trailing bytes, and the skip of what it left there
@@ -76,40 +84,48 @@ module _ (k : ℕ) (l : List Stmt) (s : Safe l) (σ : State) where
         λ le.
             let p : List ℕ = take (held σ - t) (σ .spans span) in
             let other : put (σ .spans) o p span ≡ σ .spans span = put-other (σ .spans) o p span (own-span id) in
-            line k (Line.front Before.slice o span (allBut t)) _ σ
-            (known (minus (held σ) t) (held σ - t) _ (minus-num (held σ) t le) (
-              omega arith,
-              line k (Line.must (Test.notParsed T o x)) _ _
-                  (λ a n u. (
-                    tt,
-                    let q : List ℕ = drop n (put (σ .spans) o p o) in
-                        let again : put (put (σ .spans) o p) o q span ≡ σ .spans span = put-other (put (σ .spans) o p) o q span (own-span id) ∙ other in
-                        line k (Line.skip span (Expr.size o)) l _ (
-                          omega (
-                            arith,
-                            ap length again,
-                            ap length (put-same (put (σ .spans) o p) o q),
-                            length-drop n (put (σ .spans) o p o),
-                            ap length (put-same (σ .spans) o p),
-                            length-take (held σ - t) (σ .spans span),
+            line k (Line.front Before.slice o span (allBut t)) _ σ (
+              (tt, tt, tt, tt),
+              known (num (pos (held σ) -ℤ pos t)) (held σ - t) _ (minus-num (held σ) t le) (
+                omega arith,
+                line k (Line.must (Test.notParsed T o x)) _ _
+                    (λ a n u. (
+                      tt,
+                      let q : List ℕ = drop n (put (σ .spans) o p o) in
+                          let again : put (put (σ .spans) o p) o q span ≡ σ .spans span = put-other (put (σ .spans) o p) o q span (own-span id) ∙ other in
+                          line k (Line.skip span (Expr.size o)) l _ (
+                            omega (
+                              arith,
+                              ap length again,
+                              ap length (put-same (put (σ .spans) o p) o q),
+                              length-drop n (put (σ .spans) o p o),
+                              ap length (put-same (σ .spans) o p),
+                              length-take (held σ - t) (σ .spans span),
+                            ),
+                            up l s _ k,
                           ),
-                          up l s _ k,
-                        ),
-                  )),
-            )),
+                    )),
+              ),
+            ),
       )
 
   -- the padding: z holds what the span was
   padding-up : (z : Text) (p : ℕ) → held σ ≤ σ .vars z
       → Up k (Stmt.when (Test.less (gone z) (Expr.lit p)) (roomFor (missing z p) ∷ Line.skip span (missing z p) ∷ []) ∷ l) σ
   padding-up z p h =
-      let g : eval excusing σ (gone z) ≡ num (σ .vars z - held σ) = minus-num (σ .vars z) (held σ) h in
+      let g : eval excusing σ (gone z) ≡ num (pos (σ .vars z - held σ)) = minus-num (σ .vars z) (held σ) h in
       down k _ σ
-      (when-up k (Test.less (gone z) (Expr.lit p)) _ l σ
-      (known (eval excusing σ (gone z)) (σ .vars z - held σ) _ g (
-        λ m. by-check (eval excusing σ (missing z p)) (held σ) _ (λ n ev le. known (eval excusing σ (missing z p)) n _ ev (le, up l s _ k)),
-        λ m. up l s σ k,
-      )))
+      (when-up k (Test.less (gone z) (Expr.lit p)) _ l σ (
+        (tt, tt, tt, tt),
+        known (eval excusing σ (gone z)) (σ .vars z - held σ) _ g (
+          λ m. (
+            (tt, (tt, tt, tt, tt), tt, natural-is _ _ g),
+            by-check (eval excusing σ (missing z p)) (held σ) _
+                (λ n ev le. ((tt, (tt, tt, tt, tt), tt, natural-is _ _ g), known (eval excusing σ (missing z p)) n _ ev (le, up l s _ k))),
+          ),
+          λ m. up l s σ k,
+        ),
+      ))
 
 pub block-safe : (b : Block) (l : List Stmt) → BlockOk b → Safe l → Safe (blockLines b l)
 block-safe (Block.checked order n cs) l h s σ j = run-safe order n cs l (omega (arith, h .number)) s σ j
@@ -140,3 +156,7 @@ program-safe (b ∷ bs) h σ j = block-safe b (program bs) (h .0) (program-safe 
 
 pub never : (bs : List Block) → BlocksOk bs → (σ : State) (k : ℕ) → run k σ (program bs) ≡ beyond → ⊥
 never bs ok σ k e = subst Fine e (program-safe bs ok σ k)
+
+-- and every line that is run next is plain
+pub plain-next : (bs : List Block) → BlocksOk bs → (σ τ : State) (k : ℕ) (l : List Stmt) → run k σ (program bs) ≡ running τ l → PlainNext τ l
+plain-next bs ok σ τ k l e = subst Fine e (program-safe bs ok σ k)

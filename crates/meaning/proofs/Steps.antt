@@ -7,17 +7,19 @@ use mathlib.Core.List.{List, [], _∷_, _++_}
 use Prim.Native.Nat.{ℕ, zero, suc, _+_}
 use lib.Dec.{leb, ltb, eqb}
 use lib.ListN.{length, take, drop}
+use lib.IntN.{ℤ, pos, negsuc}
+use lib.Signed.{ltZ}
 use Rattle.definitions.specs.Bytes.{Text, pick}
 use Rattle.definitions.specs.Lines.{Expr, Src, Test, Line, Stmt}
 use Rattle.definitions.specs.Blocks.{body}
-use Rattle.meaning.specs.Machine.{Cause, Answer, State, putSpan, putVar, putTurns, putAnswers, advance, Num, num, below, over, excusing, eval, valueOf, Outcome, running, ended, returned, waiting, excused, beyond, given, against, takeFront, fetch, asked, subrange, test, exec, head, step, onward, run}
+use Rattle.meaning.specs.Machine.{Cause, Reply, State, putSpan, putVar, putTurns, putReplies, advance, Num, num, over, excusing, eval, less, eqZ, valueOf, Standing, running, ended, returned, waiting, excused, beyond, onNum, amount, takeFront, fetch, asked, subrange, test, exec, loopHead, step, onward, run}
 use Rattle.meaning.proofs.Impossible.{impossible}
 
 -- kept by whatever a line does to a state
 pub record Closed (P : State → Type 0) : Type 0 where
   pub var : (σ : State) (x : Text) (n : ℕ) → P σ → P (putVar σ x n)
   pub turns : (σ : State) (n : ℕ) → P σ → P (putTurns σ n)
-  pub answers : (σ : State) (l : List Answer) → P σ → P (putAnswers σ l)
+  pub replies : (σ : State) (l : List Reply) → P σ → P (putReplies σ l)
   pub copy : (σ : State) (x s : Text) → P σ → P (putSpan σ x (σ .spans s))
   pub part : (σ : State) (x s : Text) (at n : ℕ) → P σ → P (putSpan σ x (take n (drop at (σ .spans s))))
   pub rest : (σ : State) (s : Text) (n : ℕ) → P σ → P (putSpan σ s (drop n (σ .spans s)))
@@ -35,7 +37,7 @@ body-more (x ∷ b) s l = ap (λ (r : List Stmt). Stmt.one x ∷ r) (body-more b
 
 module _ (P : State → Type 0) (keeps : Closed P) (l : List Stmt) where
   -- where the run goes on: P holds, and what follows is some lines, and then l
-  abbrev pub Leaves : Outcome → Type 0
+  abbrev pub Leaves : Standing → Type 0
   Leaves (running σ r) = P σ × ((b : List Stmt) × (r ≡ b ++ l))
   Leaves ended = Unit {0}
   Leaves returned = Unit {0}
@@ -43,53 +45,51 @@ module _ (P : State → Type 0) (keeps : Closed P) (l : List Stmt) where
   Leaves (excused why) = Unit {0}
   Leaves beyond = Unit {0}
 
-  on-pick : (t : Bool) (o p : Outcome) → Leaves o → Leaves p → Leaves (pick t o p)
+  on-pick : (t : Bool) (o p : Standing) → Leaves o → Leaves p → Leaves (pick t o p)
   on-pick true o p h k = h
   on-pick false o p h k = k
 
-  on-given : (v : Num) (g : ℕ → Outcome) → ((n : ℕ) → Leaves (g n)) → Leaves (given v g)
-  on-given (num n) g h = h n
-  on-given below g h = tt
-  on-given (over why) g h = tt
+  on-num : (v : Num) (g : ℤ → Standing) → ((n : ℤ) → Leaves (g n)) → Leaves (onNum v g)
+  on-num (num n) g h = h n
+  on-num (over why) g h = tt
 
-  on-against : (v : Num) (a : Outcome) (g : ℕ → Outcome) → Leaves a → ((n : ℕ) → Leaves (g n)) → Leaves (against v a g)
-  on-against (num n) a g k h = h n
-  on-against below a g k h = k
-  on-against (over why) a g k h = tt
+  on-amount : (n : ℤ) (g : ℕ → Standing) → ((k : ℕ) → Leaves (g k)) → Leaves (amount n g)
+  on-amount (pos n) g h = h n
+  on-amount (negsuc n) g h = tt
 
-  on-front : (σ : State) (s : Text) (n : ℕ) (g : List ℕ → State → Outcome) → P σ → ((bytes : List ℕ) (τ : State) → P τ → Leaves (g bytes τ)) → Leaves (takeFront σ s n g)
+  on-front : (σ : State) (s : Text) (n : ℕ) (g : List ℕ → State → Standing) → P σ → ((bytes : List ℕ) (τ : State) → P τ → Leaves (g bytes τ)) → Leaves (takeFront σ s n g)
   on-front σ s n g p h = on-pick (leb n (length (σ .spans s))) _ beyond (h _ _ (keeps .front σ s n p)) tt
 
-  on-fetch : (σ : State) (v : Src) (g : ℕ → State → Outcome) → P σ → ((n : ℕ) (τ : State) → P τ → Leaves (g n τ)) → Leaves (fetch σ v g)
+  on-fetch : (σ : State) (v : Src) (g : ℕ → State → Standing) → P σ → ((n : ℕ) (τ : State) → P τ → Leaves (g n τ)) → Leaves (fetch σ v g)
   on-fetch σ (Src.read s o w n) g p h = on-front σ s n (λ bytes τ. g (valueOf o bytes) τ) p (λ bytes τ q. h (valueOf o bytes) τ q)
   on-fetch σ (Src.bits x k m) g p h = h _ _ p
   on-fetch σ (Src.held x) g p h = h _ _ p
 
-  on-asked : (list : List Answer) (σ : State) (g : Answer → State → Outcome) → ((a : Answer) (r : List Answer) → Leaves (g a (putAnswers σ r))) → Leaves (asked list σ g)
+  on-asked : (list : List Reply) (σ : State) (g : Reply → State → Standing) → ((a : Reply) (r : List Reply) → Leaves (g a (putReplies σ r))) → Leaves (asked list σ g)
   on-asked [] σ g h = tt
   on-asked (a ∷ more) σ g h = h a more
 
-  on-test : (σ : State) (c : Test) (t e : State → Outcome) → P σ → ((τ : State) → P τ → Leaves (t τ)) → ((τ : State) → P τ → Leaves (e τ)) → Leaves (test excusing σ c t e)
+  on-test : (σ : State) (c : Test) (t e : State → Standing) → P σ → ((τ : State) → P τ → Leaves (t τ)) → ((τ : State) → P τ → Leaves (e τ)) → Leaves (test excusing σ c t e)
   on-test σ (Test.less a b) t e p h k =
-      on-given (eval excusing σ a) _ (λ x. on-against (eval excusing σ b) _ _ (h σ p) (λ y. on-pick (ltb x y) _ _ (h σ p) (k σ p)))
-  on-test σ (Test.ragged a b) t e p h k = on-given (eval excusing σ (Expr.rem a b)) _ (λ r. on-pick (eqb r 0) _ _ (k σ p) (h σ p))
+      on-num (eval excusing σ a) _ (λ x. on-num (eval excusing σ b) _ (λ y. on-pick (less a x y) _ _ (h σ p) (k σ p)))
+  on-test σ (Test.ragged a b) t e p h k = on-num (eval excusing σ (Expr.rem a b)) _ (λ r. on-pick (eqZ r (pos 0)) _ _ (k σ p) (h σ p))
   on-test σ (Test.equal a b) t e p h k =
-      on-given (eval excusing σ a) _ (λ x. on-given (eval excusing σ b) _ (λ y. on-pick (eqb x y) _ _ (h σ p) (k σ p)))
+      on-num (eval excusing σ a) _ (λ x. on-num (eval excusing σ b) _ (λ y. on-pick (eqZ x y) _ _ (h σ p) (k σ p)))
   on-test σ (Test.raggedOrZero a b) t e p h k =
-      on-given (eval excusing σ b) _
-      (λ y. on-pick (eqb y 0) _ _ (h σ p) (on-given (eval excusing σ (Expr.rem a b)) _ (λ r. on-pick (eqb r 0) _ _ (k σ p) (h σ p))))
+      on-num (eval excusing σ b) _
+      (λ y. on-pick (eqZ y (pos 0)) _ _ (h σ p) (on-num (eval excusing σ (Expr.rem a b)) _ (λ r. on-pick (eqZ r (pos 0)) _ _ (k σ p) (h σ p))))
   on-test σ (Test.more s) t e p h k = on-pick (ltb 0 (length (σ .spans s))) _ _ (h σ p) (k σ p)
   on-test σ (Test.notParsed type s x) t e p h k =
-      on-asked (σ .answers) σ _
+      on-asked (σ .replies) σ _
       (λ a r.
-      let q = keeps .rest (putAnswers σ r) s (a .consumes) (keeps .answers σ r p) in
+      let q = keeps .rest (putReplies σ r) s (a .consumes) (keeps .replies σ r p) in
       on-pick (leb (a .consumes) (length (σ .spans s))) _ (excused Cause.byParser) (on-pick (a .says) _ _ (k _ q) (h _ q)) tt)
   on-test σ (Test.notValid type x) t e p h k =
-      on-asked (σ .answers) σ _ (λ a r. on-pick (a .says) _ _ (k _ (keeps .answers σ r p)) (h _ (keeps .answers σ r p)))
+      on-asked (σ .replies) σ _ (λ a r. on-pick (a .says) _ _ (k _ (keeps .replies σ r p)) (h _ (keeps .replies σ r p)))
   on-test σ (Test.notFixed v n) t e p h k = on-fetch σ v _ p (λ m τ q. on-pick (eqb m n) _ _ (k τ q) (h τ q))
   on-test σ (Test.notTag type v tag) t e p h k =
       on-fetch σ v _ p
-      (λ m τ q. on-asked (τ .answers) τ _ (λ a r. on-pick (a .says) _ _ (k _ (keeps .answers τ r q)) (h _ (keeps .answers τ r q))))
+      (λ m τ q. on-asked (τ .replies) τ _ (λ a r. on-pick (a .says) _ _ (k _ (keeps .replies τ r q)) (h _ (keeps .replies τ r q))))
 
   on-subrange : (σ : State) (x s : Text) (at n : ℕ) → P σ → Leaves (subrange σ x s at n l)
   on-subrange σ x s at n p = on-pick (leb (at + n) (length (σ .spans s))) _ beyond (keeps .part σ x s at n p, ([], refl)) tt
@@ -100,14 +100,14 @@ module _ (P : State → Type 0) (keeps : Closed P) (l : List Stmt) where
   on-exec σ (Line.check d c) p = on-test σ c _ _ p (λ τ q. (q, (Stmt.one Line.fail ∷ [], refl))) (λ τ q. (q, ([], refl)))
   on-exec σ (Line.set d x v) p = on-fetch σ v _ p (λ n τ q. (keeps .var τ x _ q, ([], refl)))
   on-exec σ (Line.setCast x c v) p = on-fetch σ v _ p (λ n τ q. (keeps .var τ x n q, ([], refl)))
-  on-exec σ (Line.setTo d x e) p = on-given (eval excusing σ e) _ (λ n. (keeps .var σ x n p, ([], refl)))
+  on-exec σ (Line.setTo d x e) p = on-num (eval excusing σ e) _ (λ n. (keeps .var σ x _ p, ([], refl)))
   on-exec σ (Line.lower w x n) p = (keeps .var σ x _ p, ([], refl))
   on-exec σ (Line.raise w x n) p = (keeps .var σ x _ p, ([], refl))
   on-exec σ (Line.keep x s) p = (keeps .copy σ x s p, ([], refl))
-  on-exec σ (Line.front d x s n) p = on-given (eval excusing σ n) _ (λ len. on-subrange σ x s 0 len p)
+  on-exec σ (Line.front d x s n) p = on-num (eval excusing σ n) _ (λ len. on-amount len _ (λ n. on-subrange σ x s 0 n p))
   on-exec σ (Line.part d x s a n) p =
-      on-given (eval excusing σ a) _ (λ at. on-given (eval excusing σ n) _ (λ len. on-subrange σ x s at len p))
-  on-exec σ (Line.skip s e) p = on-given (eval excusing σ e) _ (λ n. on-front σ s n (λ bytes τ. running τ l) p (λ bytes τ q. (q, ([], refl))))
+      on-num (eval excusing σ a) _ (λ at. on-num (eval excusing σ n) _ (λ len. on-amount at _ (λ i. on-amount len _ (λ j. on-subrange σ x s i j p))))
+  on-exec σ (Line.skip s e) p = on-num (eval excusing σ e) _ (λ size. on-amount size _ (λ n. on-front σ s n (λ bytes τ. running τ l) p (λ bytes τ q. (q, ([], refl)))))
   on-exec σ (Line.reserved s n) p = on-front σ s n (λ bytes τ. running τ l) p (λ bytes τ q. (q, ([], refl)))
   on-exec σ (Line.clear s) p = (keeps .clear σ s p, ([], refl))
   on-exec σ (Line.store d v) p = on-fetch σ v _ p (λ n τ q. (q, ([], refl)))
@@ -116,10 +116,10 @@ module _ (P : State → Type 0) (keeps : Closed P) (l : List Stmt) where
   on-exec σ (Line.declare t) p = (p, ([], refl))
   on-exec σ (Line.emplace x) p = (p, ([], refl))
 
-  on-head : (σ : State) (e : Expr) (b : List Line) → P σ → Leaves (head excusing σ e b l)
+  on-head : (σ : State) (e : Expr) (b : List Line) → P σ → Leaves (loopHead excusing σ e b l)
   on-head σ e b p =
-      on-given (eval excusing σ e) _
-      (λ n. on-pick (ltb (σ .turns) n) _ _ (p, (body b (Stmt.recount e b ∷ []), body-more b (Stmt.recount e b) l)) (p, ([], refl)))
+      on-num (eval excusing σ e) _
+      (λ n. on-pick (ltZ (pos (σ .turns)) n) _ _ (p, (body b (Stmt.recount e b ∷ []), body-more b (Stmt.recount e b) l)) (p, ([], refl)))
 
   pub on-step : (σ : State) (s : Stmt) → P σ → Leaves (step excusing σ s l)
   on-step σ (Stmt.one x) p = on-exec σ x p
@@ -130,7 +130,7 @@ module _ (P : State → Type 0) (keeps : Closed P) (l : List Stmt) where
       on-test σ c _ _ p (λ τ q. (q, (body b (Stmt.while c b ∷ []), body-more b (Stmt.while c b) l))) (λ τ q. (q, ([], refl)))
 
 -- a run that goes on had a step that goes on
-pub went-on : (o : Outcome) (f : State → List Stmt → Outcome) (υ : State) (r : List Stmt) → onward o f ≡ running υ r
+pub went-on : (o : Standing) (f : State → List Stmt → Standing) (υ : State) (r : List Stmt) → onward o f ≡ running υ r
     → (τ : State) × (q : List Stmt) × (o ≡ running τ q) × (f τ q ≡ running υ r)
 went-on (running τ q) f υ r e = (τ, q, refl, e)
 went-on ended f υ r e = impossible (cc)

@@ -16,7 +16,7 @@ use Rattle.definitions.specs.Blocks.{span, raw, Kind, Bit, widths, getCxxScalar
 use Rattle.definitions.specs.FieldParser.{Setting, kindOf}
 use Rattle.definitions.specs.declared.EndiannessValue.{EndiannessValue}
 use Rattle.definitions.specs.declared.Field.{Field}
-use Rattle.meaning.specs.Machine.{State, advance, put, littleOf, valueOf, Outcome, beyond, fetch}
+use Rattle.meaning.specs.Machine.{State, advance, put, littleOf, valueOf, Standing, beyond, fetch}
 use Rattle.meaning.specs.Rule.{lowestFirst, bitsAt, fieldValue, Octets, widthOf, bitsIn}
 use Rattle.meaning.specs.Runs.{behindRun, placed}
 use Rattle.meaning.specs.Places.{BitField, groupOf, ChunkOf, alone, atChunk, linesAhead, source, ownLines, atField, ruled, Holds}
@@ -39,7 +39,7 @@ Room σ (Src.read s order w n) = n ≤ length (σ .spans s)
 Room σ (Src.bits x shift m) = Unit {0}
 Room σ (Src.held x) = Unit {0}
 
-pub taken-is-fetched : (σ : State) (v : Src) → Room σ v → (τ : State) × ((f : ℕ → State → Outcome) → fetch σ v f ≡ f (taken σ v) τ)
+pub taken-is-fetched : (σ : State) (v : Src) → Room σ v → (τ : State) × ((f : ℕ → State → Standing) → fetch σ v f ≡ f (taken σ v) τ)
 taken-is-fetched σ (Src.read s order w n) r = (
   advance σ s n,
   λ f.

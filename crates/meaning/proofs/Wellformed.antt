@@ -9,7 +9,7 @@ use Rattle.definitions.specs.Bytes.{Text, same}
 use Rattle.definitions.specs.Blocks.{span, raw, Kind, Bit, Chunk, widths, chunkName, Elem, Block}
 use Rattle.definitions.specs.declared.ElementSize.{ElementSize}
 use Rattle.definitions.specs.declared.EndiannessValue.{EndiannessValue}
-use Rattle.meaning.specs.Runs.{blockFields}
+use Rattle.meaning.specs.Runs.{blockRun}
 use Rattle.meaning.proofs.Items.{offsets}
 
 -- the bytes that an element's lines read themselves
@@ -100,6 +100,6 @@ abbrev pub Ordered : EndiannessValue → List Block → Type 0
 Ordered o [] = Unit {0}
 Ordered o (b ∷ bs) = OrderOf o b × Ordered o bs
 
--- no checked run: it has no chunk
+-- no checked run
 abbrev pub Plain : Block → Type 0
-Plain b = (blockFields b ≡ []) × ((o : EndiannessValue) → OrderOf o b)
+Plain b = (blockRun b ≡ []) × ((o : EndiannessValue) → OrderOf o b)

@@ -11,7 +11,7 @@ use Rattle.definitions.specs.declared.Arrays.{Arrays}
 use Rattle.definitions.specs.declared.Modifier.{Modifier}
 use Rattle.definitions.specs.declared.ElementSize.{ElementSize}
 use Rattle.definitions.specs.declared.ArraySize.{ArraySize}
-use Rattle.meaning.specs.Machine.{Inside, Answer, State, start, running, run}
+use Rattle.meaning.specs.Machine.{Inside, Reply, State, start, running, run}
 use Rattle.meaning.proofs.Wellformed.{BlockOk, BlocksOk}
 use Rattle.meaning.specs.Rule.{Octets}
 use Rattle.meaning.proofs.Frame.{inside}
@@ -111,6 +111,6 @@ octets-left (x ∷ a) b h = (h .0, octets-left a b (h .1))
 pub octets-part : (f s : List ℕ) → Inside f s → Octets f → Octets s
 octets-part f s p h = octets-left s (p .1) (octets-right (p .0) (s ++ p .1) (subst Octets (sym (p .2)) h))
 
-pub octets-inside : (f : List ℕ) → Octets f → (vars : Text → ℕ) (answers : List Answer) (k : ℕ) (l r : List Stmt) (τ : State)
-    → run k (start f vars answers) l ≡ running τ r → Octets (τ .spans span)
-octets-inside f h vars answers k l r τ e = octets-part f (τ .spans span) (inside f vars answers k l r τ e span) h
+pub octets-inside : (f : List ℕ) → Octets f → (vars : Text → ℕ) (replies : List Reply) (k : ℕ) (l r : List Stmt) (τ : State)
+    → run k (start f vars replies) l ≡ running τ r → Octets (τ .spans span)
+octets-inside f h vars replies k l r τ e = octets-part f (τ .spans span) (inside f vars replies k l r τ e span) h

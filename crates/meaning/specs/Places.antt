@@ -4,38 +4,43 @@ use mathlib.Core.Path.{_≡_}
 use mathlib.Core.Bool.{Bool, true, false}
 use mathlib.Core.List.{List, [], _∷_, _++_}
 use Prim.Native.Nat.{ℕ, _+_, _/_, _≤_}
-use lib.ListN.{take}
+use lib.ListN.{take, drop}
 use Rattle.definitions.specs.Bytes.{pick}
 use Rattle.definitions.specs.Lines.{Src, Before, Line, Stmt}
 use Rattle.definitions.specs.Blocks.{span, Kind, Chunk, getCxxScalarType, readOf, mask, isReserved, chunkName, kindLines, bitsLines, chunkLines, chunksLines, body, Block, program}
 use Rattle.definitions.specs.FieldParser.{Setting, kindOf}
 use Rattle.definitions.specs.declared.Field.{Field}
-use Rattle.meaning.specs.Machine.{State, Outcome, running, fetch, run}
-use Rattle.meaning.specs.Rule.{widthOf, bitsIn, groups, fieldValue}
-use Rattle.meaning.specs.Runs.{CheckedRun, behindRun, Passes, fieldsOf, fieldsIn, placed, placedAll}
+use Rattle.meaning.specs.Machine.{State, Standing, running, fetch, run}
+use Rattle.meaning.specs.Rule.{widthOf, bitsIn, runs, fieldValue}
+use Rattle.meaning.specs.Runs.{CheckedRun, runLines, behindRun, allWidths, Passes, fieldsOf, runsIn, placed, placedRun, placedRuns}
 
--- a bit field of the target in its group; not a reserved one, which gets no value
+-- a bit field of the target in its group, in its run; not a reserved one, which gets no value
 pub record BitField (c : Setting) : Type 0 where
+  pub runsBefore : List (List (List Field))
   pub groupsBefore : List (List Field)
   pub before : List Field
   pub field : Field
   pub after : List Field
   pub groupsAfter : List (List Field)
-  pub groups-are : groups c ≡ groupsBefore ++ ((before ++ (field ∷ after)) ∷ groupsAfter)
+  pub runsAfter : List (List (List Field))
+  pub runs-are : runs c ≡ runsBefore ++ ((groupsBefore ++ ((before ++ (field ∷ after)) ∷ groupsAfter)) ∷ runsAfter)
   pub has-value : isReserved (kindOf c (field .desc)) ≡ false
 
 -- its group
 abbrev pub groupOf : {c : Setting} → BitField c → List Field
 groupOf d = d .before ++ (d .field ∷ d .after)
 
--- its chunk: that of its group, behind the chunks of the groups before
+-- its chunk: that of its group, in the checked run that is its run: as many runs are ahead of it, with the same chunks, and its other chunks are those of
+-- the groups before and after
 pub record ChunkOf (bs : List Block) (c : Setting) (d : BitField c) : Type 0 where
   pub inRun : CheckedRun bs
   pub earlier : List Chunk
   pub nr : ℕ
   pub later : List Chunk
   pub chunks-are : inRun .chunks ≡ earlier ++ (record { nr = nr; fields = placed c 0 (groupOf d) } ∷ later)
-  pub groups-ahead : fieldsIn (inRun .pre) ++ fieldsOf earlier ≡ placedAll c (d .groupsBefore)
+  pub runs-ahead : runsIn (inRun .pre) ≡ placedRuns c (d .runsBefore)
+  pub groups-ahead : fieldsOf earlier ≡ placedRun c (d .groupsBefore)
+  pub groups-behind : fieldsOf later ≡ placedRun c (d .groupsAfter)
   pub order-is : inRun .order ≡ c .endianness
 
 -- the only field of its group
@@ -95,16 +100,25 @@ Holds σ Kind.reserved width v = Unit {0}
 
 -- what the lines give the field in a run from the state σ that has come to it within k steps
 pub record Given (bs : List Block) (c : Setting) (d : BitField c) (h : ChunkOf bs c d) (σ : State) (k : ℕ) : Type 0 where
-  -- after so many steps the run stood before the lines of the field's chunk
+  -- the lines of its chunk are those ahead of its own, its own, and those behind
+  pub lines-are : atChunk bs c d h ≡ body (linesAhead bs c d h) (atField bs c d h)
+  -- the run stood before the check of the field's run
+  pub checkSteps : ℕ
+  pub atCheck : State
+  pub stood-before : run checkSteps σ (program bs) ≡ running atCheck (body (runLines (h .inRun)) (behindRun (h .inRun)))
+  -- and then, after so many steps in all, before the lines of its chunk
   pub steps : ℕ
+  pub check-first : checkSteps ≤ steps
   pub within : steps ≤ k
   pub found : State
   pub stood : run steps σ (program bs) ≡ running found (atChunk bs c d h)
-  -- and passed those ahead of the field's own
+  -- where the span had lost the octets of the run's chunks before it, and no others
+  pub place : found .spans span ≡ drop (allWidths (h .earlier) / 8) (atCheck .spans span)
+  -- then it passed the lines ahead of the field's own
   pub at : State
   pub passed : Passes (linesAhead bs c d h) (atField bs c d h) found at
   -- there the first of its own takes the rule's value out of the octets in front of the span, to put it into a variable or to compare it
-  pub takes : (τ : State) × ((f : ℕ → State → Outcome) → fetch at (source bs c d h) f ≡ f (ruled c d (found .spans span)) τ)
+  pub takes : (τ : State) × ((f : ℕ → State → Standing) → fetch at (source bs c d h) f ≡ f (ruled c d (found .spans span)) τ)
   -- and wherever its own lines are passed, it holds that value
   pub holds : (τ : State) → Passes (ownLines bs c d h) (behindField bs c d h) at τ
       → Holds τ (kindOf c (d .field .desc)) (widthOf c (d .field)) (ruled c d (found .spans span))

@@ -1,5 +1,6 @@
 -- The rule of the PDL language reference for bit fields: they are packed from the least significant bit on, up to the next octet boundary, and the
--- octets so filled stand in the file's order. Written from the language: it knows no line, no shift and no mask of the generator.
+-- octets so filled stand in the file's order. Written from the language: it knows no line, no shift and no mask of the generator. Behind it,
+-- document 01's checked runs: which groups stand behind one size check.
 -- Assumes nothing.
 use mathlib.Core.Bool.{true, false}
 use mathlib.Core.List.{List, [], _∷_, _++_, reverse}
@@ -70,18 +71,27 @@ abbrev pub bitsIn : Setting → List Field → ℕ
 bitsIn c [] = 0
 bitsIn c (f ∷ g) = widthOf c f + bitsIn c g
 
--- the groups of fields of which some are gathered already. A field of another kind leaves these as they are (demand 2 asks only of groups that none
--- breaks); what is left at the end is no group
-unfoldable pub gather : Setting → List Field → List Field → List (List Field)
-gather c gathered [] = []
-gather c gathered (f ∷ later) = elim (isBit c f) [
+-- ---- the checked runs: the groups that stand behind one size check (document 01, 'Lowering')
+
+-- groups that are closed are a run, ahead of the later ones; where none is closed there is no run
+abbrev pub endRun : {A : Type 0} → List A → List (List A) → List (List A)
+endRun [] later = later
+endRun (g ∷ closed) later = (g ∷ closed) ∷ later
+
+-- the runs of fields, each the list of its groups, where some fields are gathered and some groups are closed already: "Its chunks are those that the
+-- target's fields closed since the flush before, or since the start". "Before other fields and at the end, pending lines are flushed behind one size
+-- check": there a run ends. A field of another kind leaves the gathered ones as they are: "the chunk goes on" (where groups are closed too, 10 refuses
+-- it). What is gathered at the end is no group
+unfoldable pub gather : Setting → List Field → List (List Field) → List Field → List (List (List Field))
+gather c gathered closed [] = endRun closed []
+gather c gathered closed (f ∷ later) = elim (isBit c f) [
   | true ↦ elim (eqb (bitsIn c (gathered ++ (f ∷ [])) % 8) 0) [
-    | true ↦ (gathered ++ (f ∷ [])) ∷ gather c [] later
-    | false ↦ gather c (gathered ++ (f ∷ [])) later
+    | true ↦ gather c [] (closed ++ ((gathered ++ (f ∷ [])) ∷ [])) later
+    | false ↦ gather c (gathered ++ (f ∷ [])) closed later
   ]
-  | false ↦ gather c gathered later
+  | false ↦ endRun closed (gather c gathered [] later)
 ]
 
--- the groups of a target
-abbrev pub groups : Setting → List (List Field)
-groups c = gather c [] (c .fields)
+-- of a target
+abbrev pub runs : Setting → List (List (List Field))
+runs c = gather c [] [] (c .fields)

@@ -6,6 +6,7 @@ use mathlib.Core.Bool.{true, false}
 use mathlib.Core.List.{List, [], _∷_, _++_}
 use mathlib.Core.Option.{Option, none, some}
 use Prim.Native.Nat.{ℕ, _+_, _≤_}
+use lib.ListN.{length}
 use Rattle.definitions.specs.Bytes.{Text}
 use Rattle.definitions.specs.Record.{RecordRead, recordIs, noRecord, readRecord}
 use Rattle.definitions.specs.Sizes.{Schema, Entry, newSchema}
@@ -50,6 +51,16 @@ abbrev pub Passes : List Line → List Stmt → State → State → Type 0
 Passes [] l σ τ = σ ≡ τ
 Passes (x ∷ b) l σ τ = (ρ : State) × (exec excusing σ x (body b l) ≡ running ρ (body b l)) × Passes b l ρ τ
 
+-- within k steps from the state σ, a run of all the lines has come to a place: at one of these steps, the last or an earlier one, no more lines were left
+-- than stand at that place and behind it. (Inside a later loop more may be left again.)
+pub record ComeTo (place : List Stmt) (bs : List Block) (σ : State) (k : ℕ) : Type 0 where
+  pub steps : ℕ
+  pub within : steps ≤ k
+  pub state : State
+  pub left : List Stmt
+  pub stood : run steps σ (program bs) ≡ running state left
+  pub short : length left ≤ length place
+
 -- in a run of all the lines from the state σ, r was run to its end: within k steps the run stood before the check, and passed all of r
 pub record RunToItsEnd (bs : List Block) (r : CheckedRun bs) (σ : State) (k : ℕ) : Type 0 where
   pub steps : ℕ
@@ -59,42 +70,46 @@ pub record RunToItsEnd (bs : List Block) (r : CheckedRun bs) (σ : State) (k : �
   pub after : State
   pub passed : Passes (runLines r) (behindRun r) before after
 
--- ---- the chunks of an answer: "Its chunks are those that the target's fields closed since the flush before, or since the start"
+-- ---- the chunks of the checked runs of an answer
 
--- of chunks
+-- the fields of chunks
 abbrev pub fieldsOf : List Chunk → List (List Bit)
 fieldsOf [] = []
 fieldsOf (c ∷ cs) = c .fields ∷ fieldsOf cs
 
--- of a block: only a checked run has chunks
-abbrev pub blockFields : Block → List (List Bit)
-blockFields (Block.checked order n cs) = fieldsOf cs
-blockFields (Block.sizedPayload x s m) = []
-blockFields (Block.payloadUpTo x n) = []
-blockFields (Block.payloadToEnd x) = []
-blockFields (Block.array m w a) = []
-blockFields (Block.paddedArray p m w a) = []
-blockFields (Block.optionalScalar c v order w x) = []
-blockFields (Block.optionalOpen c v order w x type) = []
-blockFields (Block.optionalClosed c v order w x type) = []
-blockFields (Block.optionalNested c v x type) = []
-blockFields (Block.nested type x) = []
-blockFields (Block.nestedUpTo id n type x) = []
+-- of a block: only a checked one is a run
+abbrev pub blockRun : Block → List (List (List Bit))
+blockRun (Block.checked order n cs) = fieldsOf cs ∷ []
+blockRun (Block.sizedPayload x s m) = []
+blockRun (Block.payloadUpTo x n) = []
+blockRun (Block.payloadToEnd x) = []
+blockRun (Block.array m w a) = []
+blockRun (Block.paddedArray p m w a) = []
+blockRun (Block.optionalScalar c v order w x) = []
+blockRun (Block.optionalOpen c v order w x type) = []
+blockRun (Block.optionalClosed c v order w x type) = []
+blockRun (Block.optionalNested c v x type) = []
+blockRun (Block.nested type x) = []
+blockRun (Block.nestedUpTo id n type x) = []
 
--- the chunks of all checked runs, in order, as lists of their fields
-abbrev pub fieldsIn : List Block → List (List Bit)
-fieldsIn [] = []
-fieldsIn (b ∷ bs) = blockFields b ++ fieldsIn bs
+-- the checked runs, in order: each the list of its chunks, and these as lists of their fields
+abbrev pub runsIn : List Block → List (List (List Bit))
+runsIn [] = []
+runsIn (b ∷ bs) = blockRun b ++ runsIn bs
 
 -- a group's fields as a chunk has them: each behind s bits and those of the fields before it, with its declared width
 abbrev pub placed : Setting → ℕ → List Field → List Bit
 placed c s [] = []
 placed c s (f ∷ g) = record { shift = s; width = widthOf c f; kind = kindOf c (f .desc) } ∷ placed c (s + widthOf c f) g
 
--- of all groups
-abbrev pub placedAll : Setting → List (List Field) → List (List Bit)
-placedAll c [] = []
-placedAll c (g ∷ gs) = placed c 0 g ∷ placedAll c gs
+-- the groups of a run, and all runs
+abbrev pub placedRun : Setting → List (List Field) → List (List Bit)
+placedRun c [] = []
+placedRun c (g ∷ gs) = placed c 0 g ∷ placedRun c gs
+
+abbrev pub placedRuns : Setting → List (List (List Field)) → List (List (List Bit))
+placedRuns c [] = []
+placedRuns c (r ∷ rs) = placedRun c r ∷ placedRuns c rs
 
 -- ---- the target of a record
 
