@@ -1,0 +1,14 @@
+-- Tests that fail, and cases that cannot be.
+-- Assumes nothing.
+use mathlib.Core.Bool.{Bool, true, false, _||_}
+use mathlib.Core.Path.{_≡_, refl}
+use Prim.Native.Nat.{ℕ}
+use native.Mathlib.Omega.{arith}
+
+-- two constructors that differ are never equal: `cc` finds 0 ≡ 1 from an equation of such
+pub impossible {ℓ} : {A : Type ℓ} → _≡_ {A = ℕ} 0 1 → A
+impossible e = absurd (omega arith)
+
+pub neither : (a b : Bool) → (a || b) ≡ false → (a ≡ false) × (b ≡ false)
+neither true b e = impossible (cc)
+neither false b e = (refl, e)

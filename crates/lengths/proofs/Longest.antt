@@ -1,0 +1,184 @@
+-- The lines of an accepted record have at most 65,536 bytes, so a buffer of that many is enough for every record: refusal 15 is never met with it.
+-- Read `longest` and `enough` at the end first.
+-- Assumes nothing.
+use mathlib.Core.Bool.{Bool, true, false, _||_}
+use mathlib.Core.List.{List, [], _∷_, _++_}
+use mathlib.Core.Path.{_≡_, refl, subst}
+use Prim.Native.Nat.{ℕ, suc, _+_, _*_, _≤_, _<_}
+use native.Mathlib.Nat.{mul-suc}
+use native.Mathlib.Omega.{arith}
+use lib.Dec.{leb, ltb}
+use lib.ListN.{length}
+use borrow.Author.Tests.{ltb-false, le-leb}
+use Rattle.definitions.specs.Bytes.{Text, pick, any}
+use Rattle.definitions.specs.Record.{Declaration, RecordRead, recordIs, noRecord, readRecord}
+use Rattle.definitions.specs.Sizes.{Row, Schema, reference, anyReference, paddingBits, paddedBy, annotateDecl, annotateFrom, newSchema}
+use Rattle.definitions.specs.Refusals.{tooMany, duplicateName, unknownName, outOfRange, large, ragged, noTarget, badNumber, badDecl, isTarget, refuseIf, verdict}
+use Rattle.definitions.specs.Lines.{render}
+use Rattle.definitions.specs.Blocks.{Block, program}
+use Rattle.definitions.specs.FieldParser.{Outcome, refused, accepted}
+use Rattle.definitions.specs.Answer.{settingOf, lowerTarget, lowerIn, lowerRecord, answerRead, wrongLength, answer, fitted, lowered, lower, turnedBack}
+use Rattle.definitions.specs.declared.MaybeNumber.{MaybeNumber}
+use Rattle.definitions.specs.declared.Head.{Head}
+use Rattle.definitions.specs.declared.Field.{Field}
+use Rattle.definitions.specs.declared.Reference.{Reference}
+use Rattle.definitions.specs.declared.Refusal.{Refusal}
+use Rattle.definitions.specs.declared.Verdict.{Verdict}
+use Rattle.lengths.specs.Shares.{mostBytes, bitField, lent, byReference, share, shares, isElementSize, mostOf}
+use Rattle.lengths.proofs.Impossible.{impossible, neither}
+use Rattle.lengths.proofs.Names.{FieldsAre, DeclarationsAre, RecordOk, ShortName, names-short}
+use Rattle.lengths.proofs.Fields.{Below, OutcomeFits, Plain, AllPlain, lower-fits}
+
+-- ---- the shares of up to 64 fields
+
+module _ (m : ℕ) (h : 1024 ≤ m) where
+  -- what the first field has for the array before it is in its own share
+  shares-most : (xs : List Field) → lent (paddedBy xs) + shares m xs ≤ m * length xs
+  unfolding shares
+  shares-most [] = omega arith
+  shares-most (f ∷ xs) = by (paddingBits (f .desc)) (reference (f .desc)) (shares-most xs)
+    where
+      by : (p : MaybeNumber) (r : Reference) → lent (paddedBy xs) + shares m xs ≤ m * length xs
+          → lent p + (elim p [ MaybeNumber.None ↦ byReference m r | MaybeNumber.Some bits ↦ 0 ] + lent (paddedBy xs) + shares m xs) ≤ m * suc (length xs)
+      by (MaybeNumber.Some bits) r k = omega (arith, h, k, mul-suc m (length xs))
+      by MaybeNumber.None Reference.None k = omega (arith, h, k, mul-suc m (length xs))
+      by MaybeNumber.None (Reference.Size of width) k = omega (arith, h, k, mul-suc m (length xs))
+      by MaybeNumber.None (Reference.Count of) k = omega (arith, h, k, mul-suc m (length xs))
+      by MaybeNumber.None (Reference.ElementSize of) k = omega (arith, h, k, mul-suc m (length xs))
+
+  -- an element size field among them gives less
+  shares-given : (xs : List Field) → anyReference isElementSize xs ≡ true → lent (paddedBy xs) + shares m xs + m ≤ m * length xs + bitField
+  unfolding shares
+  shares-given [] e = impossible (cc)
+  shares-given (f ∷ xs) e = by (paddingBits (f .desc)) (reference (f .desc)) e (shares-most xs) (shares-given xs)
+    where
+      by : (p : MaybeNumber) (r : Reference) → (isElementSize r || anyReference isElementSize xs) ≡ true → lent (paddedBy xs) + shares m xs ≤ m * length xs
+          → (anyReference isElementSize xs ≡ true → lent (paddedBy xs) + shares m xs + m ≤ m * length xs + bitField)
+          → lent p + (elim p [ MaybeNumber.None ↦ byReference m r | MaybeNumber.Some bits ↦ 0 ] + lent (paddedBy xs) + shares m xs) + m
+          ≤ m * suc (length xs) + bitField
+      by (MaybeNumber.Some bits) Reference.None g k more = omega (arith, h, more g, mul-suc m (length xs))
+      by (MaybeNumber.Some bits) (Reference.Size of width) g k more = omega (arith, h, more g, mul-suc m (length xs))
+      by (MaybeNumber.Some bits) (Reference.Count of) g k more = omega (arith, h, more g, mul-suc m (length xs))
+      by (MaybeNumber.Some bits) (Reference.ElementSize of) g k more = omega (arith, h, k, mul-suc m (length xs))
+      by MaybeNumber.None Reference.None g k more = omega (arith, h, more g, mul-suc m (length xs))
+      by MaybeNumber.None (Reference.Size of width) g k more = omega (arith, h, more g, mul-suc m (length xs))
+      by MaybeNumber.None (Reference.Count of) g k more = omega (arith, h, more g, mul-suc m (length xs))
+      by MaybeNumber.None (Reference.ElementSize of) g k more = omega (arith, h, k, mul-suc m (length xs))
+
+-- 63 arrays and one element size field, or 64 other fields
+shares-fit : (fs : List Field) → length fs ≤ 64 → shares (mostOf fs) fs ≤ mostBytes
+unfolding mostOf
+shares-fit fs h = by (anyReference isElementSize fs) refl
+  where
+    by : (b : Bool) → anyReference isElementSize fs ≡ b → shares (pick b 1032 1024) fs ≤ mostBytes
+    by true e = omega (arith, h, shares-given 1032 (omega arith) fs e)
+    by false e = omega (arith, h, shares-most 1024 (omega arith) fs)
+
+-- ---- the target of the record
+
+module _ (s : Text) (h : Head) where
+  -- 3 and 6 turn back more than 64 fields and numbers out of range
+  abbrev many : Declaration → Bool
+  many d = ltb 64 (length (d .fields))
+
+  abbrev wrong : Declaration → Bool
+  wrong d = badDecl (d .decl .desc) || any (λ (f : Field). badNumber (f .desc)) (d .fields)
+
+  target-fits : (rows : List Row) (d : Declaration) → FieldsAre (ShortName s) (d .fields) → many d ≡ false → wrong d ≡ false
+      → OutcomeFits mostBytes (lowerTarget s h (annotateDecl s rows d))
+  target-fits rows d names few fine =
+      outcome (lowerTarget s h (annotateDecl s rows d)) (lower-fits (settingOf s h (annotateDecl s rows d)) (plain (d .fields) names (neither (badDecl (d .decl .desc)) (any (λ (f : Field). badNumber (f .desc)) (d .fields)) fine .1)))
+    where
+      plain : (fs : List Field) → FieldsAre (ShortName s) fs → any (λ (f : Field). badNumber (f .desc)) fs ≡ false → AllPlain (settingOf s h (annotateDecl s rows d)) fs
+      plain [] n e = tt
+      plain (f ∷ fs) n e = let k = neither (badNumber (f .desc)) (any (λ (x : Field). badNumber (x .desc)) fs) e in ((n .0, k .0), plain fs (n .1) (k .1))
+
+      outcome : (o : Outcome) → OutcomeFits (shares (mostOf (d .fields)) (d .fields)) o → OutcomeFits mostBytes o
+      outcome (refused why) k = k
+      outcome (accepted bs) k = omega (arith, k, shares-fit (d .fields) (ltb-false 64 (length (d .fields)) few))
+
+  lower-in-fits : (rows : List Row) (ds : List Declaration) → DeclarationsAre (ShortName s) ds → any many ds ≡ false → any wrong ds ≡ false
+      → OutcomeFits mostBytes (lowerIn s h (annotateFrom s rows ds))
+  unfolding lowerIn annotateFrom
+  lower-in-fits rows [] names few fine = omega arith
+  lower-in-fits rows (d ∷ ds) names few fine =
+      let f = neither (many d) (any many ds) few in
+      let g = neither (wrong d) (any wrong ds) fine in
+      by (lowerTarget s h (annotateDecl s rows d)) (lowerIn s h (annotateFrom s (rows ++ (annotateDecl s rows d .row ∷ [])) ds))
+      (target-fits rows d (names .0) (f .0) (g .0)) (lower-in-fits (rows ++ (annotateDecl s rows d .row ∷ [])) ds (names .1) (f .1) (g .1)) (isTarget s h (annotateDecl s rows d))
+    where
+      by : (a b : Outcome) → OutcomeFits mostBytes a → OutcomeFits mostBytes b → (t : Bool) → OutcomeFits mostBytes (elim t [ true ↦ a | false ↦ b ])
+      by a b j k true = j
+      by a b j k false = k
+
+  -- ---- refusals 3 to 9
+
+  abbrev VerdictFits : Verdict → Type 0
+  VerdictFits (Verdict.Refuse why) = Below why
+  VerdictFits Verdict.Pass = Unit {0}
+
+  refuses-below : (b : Bool) (why : Refusal) (next : Verdict) → Below why → VerdictFits next → VerdictFits (refuseIf b why next)
+  refuses-below true why next j k = j
+  refuses-below false why next j k = k
+
+  verdict-fits : (ds : List Declaration) (schema : Schema) → VerdictFits (verdict s h ds schema)
+  unfolding verdict
+  verdict-fits ds schema =
+      refuses-below (tooMany ds) Refusal.TooMany _ (omega arith)
+      (refuses-below (duplicateName s ds) Refusal.DuplicateName _ (omega arith)
+      (refuses-below (unknownName s ds) Refusal.UnknownName _ (omega arith)
+      (refuses-below (outOfRange ds) Refusal.OutOfRange _ (omega arith)
+      (refuses-below (large schema) Refusal.TooLarge _ (omega arith)
+      (refuses-below (ragged s schema) Refusal.NotWholeBytes _ (omega arith)
+      (refuses-below (noTarget s h schema) Refusal.NoTarget Verdict.Pass (omega arith) tt))))))
+
+  refuse-next : (b : Bool) (why : Refusal) (next : Verdict) → refuseIf b why next ≡ Verdict.Pass → (b ≡ false) × (next ≡ Verdict.Pass)
+  refuse-next true why next e = impossible (cc)
+  refuse-next false why next e = (refl, e)
+
+  passes : (ds : List Declaration) (schema : Schema) → verdict s h ds schema ≡ Verdict.Pass → (tooMany ds ≡ false) × (outOfRange ds ≡ false)
+  unfolding verdict
+  passes ds schema e =
+      let few = refuse-next (tooMany ds) Refusal.TooMany _ e in
+      let two = refuse-next (duplicateName s ds) Refusal.DuplicateName _ (few .1) in
+      let unknown = refuse-next (unknownName s ds) Refusal.UnknownName _ (two .1) in
+      let range = refuse-next (outOfRange ds) Refusal.OutOfRange _ (unknown .1) in
+      (few .0, range .0)
+
+  record-fits : (ds : List Declaration) → DeclarationsAre (ShortName s) ds → OutcomeFits mostBytes (lowerRecord s h ds (newSchema s ds))
+  unfolding lowerRecord tooMany outOfRange
+  record-fits ds names = by (verdict s h ds (newSchema s ds)) refl (verdict-fits ds (newSchema s ds))
+    where
+      by : (v : Verdict) → verdict s h ds (newSchema s ds) ≡ v → VerdictFits v
+          → OutcomeFits mostBytes (elim v [ Verdict.Pass ↦ lowerIn s h (newSchema s ds) | Verdict.Refuse why ↦ refused why ])
+      by (Verdict.Refuse why) e k = k
+      by Verdict.Pass e k =
+          let p = passes ds (newSchema s ds) e in
+          lower-in-fits [] ds names (neither (ltb 32 (length ds)) (any many ds) (p .0) .1) (p .1)
+
+-- ---- the answer
+
+-- an accepted record has lines of at most so many bytes, and no other record is turned back by 15
+pub fits : (s : Text) → OutcomeFits mostBytes (answer s)
+unfolding answer
+fits s = by (wrongLength s)
+  where
+    read : (r : RecordRead) → RecordOk (ShortName s) r → OutcomeFits mostBytes (answerRead s r)
+    read noRecord k = omega arith
+    read (recordIs h ds) k = record-fits s h ds k
+
+    by : (b : Bool) → OutcomeFits mostBytes (elim b [ true ↦ refused Refusal.RecordLength | false ↦ answerRead s (readRecord s) ])
+    by true = omega arith
+    by false = read (readRecord s) (names-short s)
+
+pub longest : (s : Text) (bs : List Block) → answer s ≡ accepted bs → length (render (program bs)) ≤ mostBytes
+longest s bs e = subst (OutcomeFits mostBytes) e (fits s)
+
+-- 15 is never answered where the buffer has that many bytes
+pub enough : (s : Text) (room : ℕ) → mostBytes ≤ room → lower s room .answered < 15
+unfolding lowered fitted
+enough s room h = by (answer s) (fits s)
+  where
+    by : (o : Outcome) → OutcomeFits mostBytes o → lowered room o .answered < 15
+    by (refused why) k = k
+    by (accepted bs) k = rw (fitted, le-leb (length (render (program bs))) room (omega (arith, h, k))) (omega arith)

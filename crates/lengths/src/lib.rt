@@ -1,0 +1,1 @@
+// How long the lines of an accepted record can be; no code.
