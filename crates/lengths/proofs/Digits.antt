@@ -1,15 +1,15 @@
--- How many digits a number has.
+-- How many digits a number has: at most 64, at most as many as the power of the base that it is below.
 -- Assumes nothing.
 use mathlib.Core.Bool.{Bool, true, false}
-use mathlib.Core.List.{List, [], _∷_, _++_}
+use mathlib.Core.List.{[], _∷_, _++_}
 use mathlib.Core.Path.{_≡_, refl, ap, _∙_}
-use Prim.Native.Nat.{ℕ, zero, suc, _+_, _*_, _-_, _/_, _%_, _^_, _≤_, _<_}
+use Prim.Native.Nat.{ℕ, zero, suc, _+_, _*_, _/_, _%_, _^_, _≤_, _<_}
 use native.Mathlib.Nat.{one-mul, pow-zero, pow-suc, one-le-pow, pow-le-pow-right, div-lt-iff-lt-mul}
 use native.Mathlib.Omega.{arith}
 use lib.Dec.{ltb}
 use lib.ListN.{length, length-append}
 use borrow.Author.Tests.{ltb-false}
-use Rattle.definitions.specs.Bytes.{Text, digit, digitsIn, digits, decimal, hexadecimal}
+use Rattle.definitions.specs.Bytes.{digit, digitsIn, decimal, hexadecimal}
 use Rattle.definitions.specs.Blocks.{mask}
 
 -- any number: as many as the fuel

@@ -1,21 +1,19 @@
--- Each field of the target pays for its lines out of its share: what the parser has emitted, holds pending and has in its open chunk is within the shares
--- of the fields so far. And no refusal of the parser is 15.
+-- Each field of the target, by its kind: the lines that it gives are within its share.
 -- Assumes nothing.
 use mathlib.Core.Bool.{Bool, true, false, _||_}
-use mathlib.Core.List.{List, [], _∷_, _++_}
-use mathlib.Core.Path.{_≡_, refl, sym, ap, _∙_, subst}
-use Prim.Native.Nat.{ℕ, zero, suc, _+_, _*_, _/_, _%_, _≤_, _<_}
+use mathlib.Core.List.{List, [], _∷_}
+use mathlib.Core.Path.{_≡_, refl}
+use Prim.Native.Nat.{ℕ, _+_, _/_, _≤_}
 use native.Mathlib.Omega.{arith}
 use lib.Dec.{ltb, eqb}
 use lib.ListN.{length, length-append}
 use borrow.Author.Tests.{ltb-false}
 use Rattle.definitions.specs.Bytes.{Text, text, pick}
-use Rattle.definitions.specs.Sizes.{Row, Annotated, EnumOf, enumIs, noEnum, enumOf, isBitfield, isPayloadId, hasPayloadSize, totalOf, typedElement, elementSize, arraySize, firstCount, countedBy, sameName, reference, anyReference, annotateField, paddedBy, annotateFields}
+use Rattle.definitions.specs.Sizes.{Annotated, EnumOf, enumIs, noEnum, enumOf, isBitfield, isPayloadId, hasPayloadSize, totalOf, typedElement, elementSize, arraySize, firstCount, countedBy, sameName, reference, anyReference, annotateField, paddedBy, annotateFields}
 use Rattle.definitions.specs.Sizes as sizes
-use Rattle.definitions.specs.Refusals.{number, badNumber, badModifier, badMaybe, badCount, badWidth}
-use Rattle.definitions.specs.Lines.{render}
-use Rattle.definitions.specs.Blocks.{Kind, Bit, Chunk, widths, Elem, Array, prefix, named, Block, program}
-use Rattle.definitions.specs.FieldParser.{Setting, FieldParser, Step, go, stop, andThen, new, append, flushed, checkCode, written, member, fieldName, isCondFor, enumKind, kindOf, staticWidth, bitOf, openChunk, closeChunk, parseBitField, Emit, appends, silent, refuses, onBoundary, onTrailing, getTrailingSize, typedefBySize, parseTypedefField, optionalTypedef, parseOptionalField, payloadName, payloadBySize, parsePayloadFieldLite, sizeBacking, typedElem, elemOf, typeName, arrayOf, withPadding, parseArrayField, parseOther, isBit, parseUnchecked, emitted, parse, parseAll, done, Outcome, refused, accepted, codeOf, lowerFields}
+use Rattle.definitions.specs.Refusals.{badNumber, badModifier, badMaybe, badCount, badWidth}
+use Rattle.definitions.specs.Blocks.{Kind, Array, named, Block}
+use Rattle.definitions.specs.FieldParser.{Setting, FieldParser, Step, go, stop, andThen, new, checkCode, written, member, fieldName, isCondFor, enumKind, kindOf, parseBitField, Emit, appends, silent, refuses, onBoundary, onTrailing, getTrailingSize, typedefBySize, parseTypedefField, optionalTypedef, parseOptionalField, payloadName, payloadBySize, parsePayloadFieldLite, sizeBacking, typedElem, elemOf, typeName, arrayOf, withPadding, parseArrayField, parseOther, isBit, parseUnchecked, emitted, parse, parseAll, done, codeOf, lowerFields}
 use Rattle.definitions.specs.declared.Part.{Part}
 use Rattle.definitions.specs.declared.MaybePart.{MaybePart}
 use Rattle.definitions.specs.declared.MaybeNumber.{MaybeNumber}
@@ -29,186 +27,13 @@ use Rattle.definitions.specs.declared.ElementSize.{ElementSize}
 use Rattle.definitions.specs.declared.ArraySize.{ArraySize}
 use Rattle.definitions.specs.declared.Reference.{Reference}
 use Rattle.definitions.specs.declared.Refusal.{Refusal}
-use Rattle.lengths.specs.Shares.{bitField, modifierLine, shape, lent, share, shares, isElementSize, mostOf}
-use Rattle.lengths.proofs.Impossible.{impossible, neither}
-use Rattle.lengths.proofs.Shapes.{Short, Counted}
-use Rattle.lengths.proofs.Pieces.{Within, ArrayShort, Modified, sized-payload, payload-up-to, payload-to-end, nested-short, nested-up-to, optional-scalar, optional-open, optional-closed, optional-nested, array-short, padded-short}
-use Rattle.lengths.proofs.Bits.{KindShort, BitShort, AllShort, ChunkShort, ChunksShort, bitsIn, checked-short}
+use Rattle.lengths.specs.Shares.{plainField, bitField, modifierLine, shape, paddedBytes, share, shares, isElementSize, mostOf}
+use Rattle.lengths.proofs.Booleans.{impossible, neither}
+use Rattle.lengths.proofs.Shapes.{ElemShort, Counted}
+use Rattle.lengths.proofs.Others.{Within, sized-payload, payload-up-to, payload-to-end, nested-short, nested-up-to, optional-scalar, optional-open, optional-closed, optional-nested, ArrayShort, Modified, array-short, padded-short}
+use Rattle.lengths.proofs.Runs.{KindShort}
 use Rattle.lengths.proofs.Names.{MaybeIs, DescIs, CondIs, FieldIs, ShortName}
-
--- ---- blocks
-
--- blocks within n bytes
-abbrev pub Fit : ℕ → List Block → Type 0
-Fit n [] = Unit {0}
-Fit n (b ∷ bs) = (k : ℕ) × (m : ℕ) × Within k b × Fit m bs × (k + m ≤ n)
-
-fit-snoc : (n k : ℕ) (bs : List Block) (b : Block) → Fit n bs → Within k b → Fit (n + k) (bs ++ (b ∷ []))
-fit-snoc n k [] b f w = (k, 0, w, tt, omega arith)
-fit-snoc n k (d ∷ bs) b (j, m, v, f, h) w = (j, m + k, v, fit-snoc m k bs b f w, omega (arith, h))
-
-fit-length : (n : ℕ) (bs : List Block) → Fit n bs → length (render (program bs)) ≤ n
-fit-length n [] f = omega arith
-fit-length n (b ∷ bs) (k, m, w, f, h) = omega (arith, w .before (program bs), fit-length m bs f, h)
-
-wider : {k n : ℕ} {b : Block} → Within k b → k ≤ n → Within n b
-wider w h = record { before = λ l. omega (arith, w .before l, h) }
-
--- ---- the parser's state
-
--- no refusal is 15
-abbrev pub Below : Refusal → Type 0
-Below why = number why < 15
-
-pub record Holds (n : ℕ) (p : FieldParser) : Type 0 where
-  pub used : ℕ
-  pub code : Fit used (p .code)
-  pub room : used + bitField * (bitsIn (p .uncheckedCode) + length (p .chunk)) ≤ n
-  pub pending : ChunksShort (p .uncheckedCode)
-  pub opened : AllShort (p .shift) (p .chunk)
-  pub width : widths (p .chunk) ≤ p .shift
-
-abbrev pub StepFits : ℕ → Step → Type 0
-StepFits n (go p) = Holds n p
-StepFits n (stop why) = Below why
-
-abbrev pub OutcomeFits : ℕ → Outcome → Type 0
-OutcomeFits n (refused why) = Below why
-OutcomeFits n (accepted bs) = length (render (program bs)) ≤ n
-
-abbrev EmitFits : ℕ → Emit → Type 0
-EmitFits n (appends b) = Within n b
-EmitFits n silent = Unit {0}
-EmitFits n (refuses why) = Below why
-
-then-fits : (m n : ℕ) (s : Step) (f : FieldParser → Step) → StepFits m s → ((q : FieldParser) → Holds m q → StepFits n (f q)) → StepFits n (andThen s f)
-then-fits m n (go p) f h k = k p h
-then-fits m n (stop why) f h k = h
-
-more-room : {m n : ℕ} {p : FieldParser} → Holds m p → m ≤ n → Holds n p
-more-room g h = record {
-  used = g .used;
-  code = g .code;
-  room = omega (arith, g .room, h);
-  pending = g .pending;
-  opened = g .opened;
-  width = g .width;
-}
-
-step-wider : {m n : ℕ} (s : Step) → StepFits m s → m ≤ n → StepFits n s
-step-wider (go p) g h = more-room g h
-step-wider (stop why) g h = g
-
-emitted-fits : (m n : ℕ) (p : FieldParser) (e : Emit) → Holds m p → EmitFits n e → StepFits (m + n) (emitted p e)
-emitted-fits m n p (appends b) g w = record {
-  used = g .used + n;
-  code = fit-snoc (g .used) n (p .code) b (g .code) w;
-  room = omega (arith, g .room);
-  pending = g .pending;
-  opened = g .opened;
-  width = g .width;
-}
-emitted-fits m n p silent g w = more-room g (omega arith)
-emitted-fits m n p (refuses why) g w = w
-
--- a run that is flushed pays for its block
-some-bits : (d : Chunk) (ds : List Chunk) → ChunksShort (d ∷ ds) → 0 < bitsIn (d ∷ ds)
-some-bits d ds h = omega (arith, h .0 .some)
-
-check-fits : (c : Setting) (n : ℕ) (p : FieldParser) → Holds n p → StepFits n (checkCode c p)
-unfolding checkCode
-check-fits c n p g = by (p .uncheckedCode) refl (p .chunk)
-  where
-    by : (cs : List Chunk) → p .uncheckedCode ≡ cs → (bs : List Bit) → StepFits n (flushed c p cs bs)
-    by [] e bs = g
-    by (d ∷ ds) e [] =
-        let some : 0 < bitsIn (p .uncheckedCode) = subst (λ (cs : List Chunk). 0 < bitsIn cs) (sym e) (some-bits d ds (subst ChunksShort e (g .pending))) in
-        record {
-          used = g .used + bitField * bitsIn (p .uncheckedCode);
-          code = fit-snoc (g .used) (bitField * bitsIn (p .uncheckedCode)) (p .code) _ (g .code) (checked-short (c .endianness) (p .offset) (p .uncheckedCode) (g .pending) some);
-          room = omega (arith, g .room);
-          pending = tt;
-          opened = g .opened;
-          width = g .width;
-        }
-    by (d ∷ ds) e (b ∷ bs) = omega arith
-
--- ---- bit fields
-
-short-snoc : (m n : ℕ) (bs : List Bit) (b : Bit) → m ≤ n → AllShort m bs → BitShort n b → AllShort n (bs ++ (b ∷ []))
-short-snoc m n [] b e h k = (k, tt)
-short-snoc m n (d ∷ bs) b e h k =
-    (record { kind = h .0 .kind; place = omega (arith, e, h .0 .place) }, short-snoc m n bs b e (h .1) k)
-
-short-more : (m n : ℕ) (bs : List Bit) → m ≤ n → AllShort m bs → AllShort n bs
-short-more m n [] e h = tt
-short-more m n (b ∷ bs) e h = (record { kind = h .0 .kind; place = omega (arith, e, h .0 .place) }, short-more m n bs e (h .1))
-
-widths-snoc : (bs : List Bit) (b : Bit) → widths (bs ++ (b ∷ [])) ≡ widths bs + b .width
-widths-snoc [] b = omega arith
-widths-snoc (d ∷ bs) b = omega (arith, widths-snoc bs b)
-
-chunks-snoc : (cs : List Chunk) (c : Chunk) → ChunksShort cs → ChunkShort c → ChunksShort (cs ++ (c ∷ []))
-chunks-snoc [] c h k = (k, tt)
-chunks-snoc (d ∷ cs) c h k = (h .0, chunks-snoc cs c (h .1) k)
-
-bits-snoc : (cs : List Chunk) (c : Chunk) → bitsIn (cs ++ (c ∷ [])) ≡ bitsIn cs + length (c .fields)
-bits-snoc [] c = omega arith
-bits-snoc (d ∷ cs) c = omega (arith, bits-snoc cs c)
-
-bit-fits : (c : Setting) (n : ℕ) (p : FieldParser) (a : Annotated) → KindShort (kindOf c (a .field .desc)) → Holds n p
-    → StepFits (n + bitField) (parseBitField c p a)
-unfolding parseBitField
-bit-fits c n p a k g = boundary (eqb (now % 8) 0)
-  where
-    now : ℕ
-    now = p .shift + staticWidth (a .fieldSize)
-
-    bit : Bit
-    bit = bitOf c (p .shift) a
-
-    grown : List Bit
-    grown = p .chunk ++ (bit ∷ [])
-
-    short : AllShort now grown
-    short = short-snoc (p .shift) now (p .chunk) bit (omega arith) (g .opened) (record { kind = k; place = omega arith })
-
-    wide : widths grown ≤ now
-    wide = omega (arith, widths-snoc (p .chunk) bit, g .width)
-
-    longer : length grown ≡ length (p .chunk) + 1
-    longer = simp length-append
-
-    close : (b : Bool) → ltb 64 now ≡ b → StepFits (n + bitField) (elim b [ true ↦ stop Refusal.ScalarTooWide | false ↦ go (closeChunk p now grown) ])
-    close true e = omega arith
-    close false e = record {
-      used = g .used;
-      code = g .code;
-      room = omega (arith, g .room, longer, bits-snoc (p .uncheckedCode) (record { nr = p .chunkNr; fields = grown }));
-      pending =
-          chunks-snoc (p .uncheckedCode) (record { nr = p .chunkNr; fields = grown }) (g .pending)
-          (record {
-            bits = short-more now 64 grown (ltb-false 64 now e) short;
-            width = omega (arith, wide, ltb-false 64 now e);
-            some = omega (arith, longer);
-          });
-      opened = tt;
-      width = omega arith;
-    }
-
-    boundary : (b : Bool) → StepFits (n + bitField) (elim b [
-      | true ↦ elim (ltb 64 now) [ true ↦ stop Refusal.ScalarTooWide | false ↦ go (closeChunk p now grown) ]
-      | false ↦ go (openChunk p now grown)
-    ])
-    boundary true = close (ltb 64 now) refl
-    boundary false = record {
-      used = g .used;
-      code = g .code;
-      room = omega (arith, g .room, longer);
-      pending = g .pending;
-      opened = short;
-      width = wide;
-    }
+use Rattle.lengths.proofs.Steps.{fit-length, wider, Holds, StepFits, OutcomeFits, EmitFits, then-fits, step-wider, emitted-fits, check-fits, more-room, bit-fits}
 
 -- ---- names
 
@@ -217,21 +42,21 @@ named-length Arrays.Lite x end = simp length-append (omega arith)
 named-length Arrays.Full x end = simp length-append (omega arith)
 
 module _ (c : Setting) where
-  abbrev Short' : Part → Type 0
-  Short' n = ShortName (c .source) n
+  abbrev Named : Part → Type 0
+  Named n = ShortName (c .source) n
 
-  field-name : (of : Part) → Short' of → length (fieldName c of) ≤ 32
+  field-name : (of : Part) → Named of → length (fieldName c of) ≤ 32
   field-name of h = by (isPayloadId (c .source) of)
     where
       by : (b : Bool) → length (pick b (text "payload") (written c of)) ≤ 32
       by true = omega arith
       by false = h
 
-  member-short : (id : Part) → Short' id → length (member c id) ≤ 41
+  member-short : (id : Part) → Named id → length (member c id) ≤ 41
   member-short id h = omega (arith, named-length (c .arrays) (written c id) (text "_"), h)
 
   -- what a bit field's bits are put into
-  enum-kind : (id type : Part) (e : EnumOf) → Short' id → Short' type → KindShort (enumKind (member c id) (written c type) e)
+  enum-kind : (id type : Part) (e : EnumOf) → Named id → Named type → KindShort (enumKind (member c id) (written c type) e)
   enum-kind id type (enumIs w o f) h k = by (o || f)
     where
       by : (b : Bool) → KindShort (pick b (Kind.openEnum (member c id) (written c type)) (Kind.closedEnum (member c id) (written c type)))
@@ -239,7 +64,7 @@ module _ (c : Setting) where
       by false = (omega (arith, member-short id h), k)
   enum-kind id type noEnum h k = omega (arith, member-short id h)
 
-  kind-short : (d : FieldDesc) → DescIs Short' d → KindShort (kindOf c d)
+  kind-short : (d : FieldDesc) → DescIs Named d → KindShort (kindOf c d)
   unfolding kindOf
   kind-short (FieldDesc.Checksum of) h = tt
   kind-short (FieldDesc.Padding size) h = tt
@@ -279,52 +104,52 @@ module _ (c : Setting) where
   pick-within n true x y h k = h
   pick-within n false x y h k = k
 
-  typedef-fits : (id type : Part) (later : List Annotated) (z : Size) → Short' id → Short' type → EmitFits 1024 (typedefBySize c id type later z)
+  typedef-fits : (id type : Part) (later : List Annotated) (z : Size) → Named id → Named type → EmitFits plainField (typedefBySize c id type later z)
   typedef-fits id type later (Size.Static n) h k = nested-short (member c id) (member-short id h) (written c type) k
   typedef-fits id type later Size.Dynamic h k = nested-short (member c id) (member-short id h) (written c type) k
   typedef-fits id type later Size.Unknown h k =
-      trailing-fits 1024 (getTrailingSize later) _
-      (λ n. pick-within 1024 (ltb 0 n) _ _
+      trailing-fits plainField (getTrailingSize later) _
+      (λ n. pick-within plainField (ltb 0 n) _ _
       (nested-up-to (member c id) (member-short id h) (written c type) k (written c id) (n / 8) h)
       (nested-short (member c id) (member-short id h) (written c type) k))
 
   payload-length : (end : Text) → length (payloadName c end) ≤ 15 + length end
   payload-length end = omega (arith, named-length (c .arrays) (text "payload") end)
 
-  payload-fits : (shift : ℕ) (m : Modifier) (later : List Annotated) → EmitFits 1024 (parsePayloadFieldLite c shift m later)
+  payload-fits : (shift : ℕ) (m : Modifier) (later : List Annotated) → EmitFits plainField (parsePayloadFieldLite c shift m later)
   unfolding parsePayloadFieldLite
-  payload-fits shift m later = boundary-fits 1024 shift _ (by (hasPayloadSize (c .source) (c .fields)))
+  payload-fits shift m later = boundary-fits plainField shift _ (by (hasPayloadSize (c .source) (c .fields)))
     where
       x : length (payloadName c (text "_")) ≤ 41
       x = omega (arith, payload-length (text "_"))
 
-      by : (b : Bool) → EmitFits 1024 (payloadBySize c m later b)
+      by : (b : Bool) → EmitFits plainField (payloadBySize c m later b)
       by true = sized-payload (payloadName c (text "_")) (payloadName c (text "_size_")) m x (omega (arith, payload-length (text "_size_")))
       by false =
-          trailing-fits 1024 (getTrailingSize later) _
-          (λ n. pick-within 1024 (ltb 0 n) _ _ (payload-up-to (payloadName c (text "_")) x (n / 8)) (payload-to-end (payloadName c (text "_")) x))
+          trailing-fits plainField (getTrailingSize later) _
+          (λ n. pick-within plainField (ltb 0 n) _ _ (payload-up-to (payloadName c (text "_")) x (n / 8)) (payload-to-end (payloadName c (text "_")) x))
 
-  optional-typedef : (cond : Part) (v : ℕ) (id type : Part) (e : EnumOf) → Short' cond → Short' id → Short' type
-      → Within 1024 (optionalTypedef c cond v id type e)
+  optional-typedef : (cond : Part) (v : ℕ) (id type : Part) (e : EnumOf) → Named cond → Named id → Named type
+      → Within plainField (optionalTypedef c cond v id type e)
   optional-typedef cond v id type (enumIs w isOpen isComplete) g h k =
-      pick-within 1024 isOpen _ _
+      pick-within plainField isOpen _ _
       (optional-open (member c id) (member-short id h) (written c cond) v g (c .endianness) w (written c type) k)
       (optional-closed (member c id) (member-short id h) (written c cond) v g (c .endianness) w (written c type) k)
   optional-typedef cond v id type noEnum g h k = optional-nested (member c id) (member-short id h) (written c cond) v (written c type) g k
 
   -- ---- arrays
 
-  elem-short : (width : MaybeNumber) (type : MaybePart) → MaybeIs Short' type → Short (elemOf c width type)
+  elem-short : (width : MaybeNumber) (type : MaybePart) → MaybeIs Named type → ElemShort (elemOf c width type)
   elem-short (MaybeNumber.Some w) type h = tt
   elem-short MaybeNumber.None MaybePart.None h = omega arith
   elem-short MaybeNumber.None (MaybePart.Some type) h = by (enumOf (c .source) (c .scope) type)
     where
-      by : (e : EnumOf) → Short (typedElem (c .endianness) (written c type) e)
+      by : (e : EnumOf) → ElemShort (typedElem (c .endianness) (written c type) e)
       by (enumIs w true f) = h
       by (enumIs w false f) = h
       by noEnum = h
 
-  type-short : (type : MaybePart) → MaybeIs Short' type → length (typeName c type) ≤ 32
+  type-short : (type : MaybePart) → MaybeIs Named type → length (typeName c type) ≤ 32
   type-short MaybePart.None h = omega arith
   type-short (MaybePart.Some type) h = h
 
@@ -371,15 +196,15 @@ module _ (c : Setting) where
   abbrev most : ℕ
   most = mostOf (c .fields)
 
-  plain-most : 1024 ≤ most
+  plain-most : plainField ≤ most
   unfolding mostOf
   plain-most = by (anyReference isElementSize (c .fields))
     where
-      by : (b : Bool) → 1024 ≤ pick b 1032 1024
+      by : (b : Bool) → plainField ≤ pick b (modifierLine + shape ElementSize.Dynamic) plainField
       by true = omega arith
       by false = omega arith
 
-  given-most : (id : Part) → anyReference (sizes.isElementSize (c .source) id) (c .fields) ≡ true → 1032 ≤ most
+  given-most : (id : Part) → anyReference (sizes.isElementSize (c .source) id) (c .fields) ≡ true → modifierLine + shape ElementSize.Dynamic ≤ most
   unfolding mostOf
   given-most id e = rw (given id (c .fields) e) (omega arith)
 
@@ -390,7 +215,7 @@ module _ (c : Setting) where
   shape-most id MaybeNumber.None (MaybePart.Some type) =
       by (totalOf (c .source) (c .scope) type) (anyReference (sizes.isElementSize (c .source) id) (c .fields)) (given-most id)
     where
-      by : (z : Size) (b : Bool) → (b ≡ true → 1032 ≤ most) → modifierLine + shape (typedElement z b) ≤ most
+      by : (z : Size) (b : Bool) → (b ≡ true → modifierLine + shape ElementSize.Dynamic ≤ most) → modifierLine + shape (typedElement z b) ≤ most
       by (Size.Static n) b h = omega (arith, plain-most)
       by Size.Dynamic true h = omega (arith, h refl)
       by Size.Dynamic false h = omega (arith, plain-most)
@@ -398,8 +223,8 @@ module _ (c : Setting) where
       by Size.Unknown false h = omega (arith, plain-most)
 
   array-fits : (padded : MaybeNumber) (id : Part) (width : MaybeNumber) (type : MaybePart) (modifier : Modifier) (size : MaybeNumber)
-      → Short' id → MaybeIs Short' type → badModifier modifier ≡ false → badMaybe badCount size ≡ false
-      → EmitFits (most + lent padded) (parseArrayField c padded id width type modifier size)
+      → Named id → MaybeIs Named type → badModifier modifier ≡ false → badMaybe badCount size ≡ false
+      → EmitFits (most + paddedBytes padded) (parseArrayField c padded id width type modifier size)
   unfolding parseArrayField
   array-fits padded id width type modifier size h k e f = by padded
     where
@@ -409,20 +234,20 @@ module _ (c : Setting) where
       short : ArrayShort array
       short = record { id = h; type = type-short type k; elem = elem-short width type k; count = counted id size f }
 
-      by : (p : MaybeNumber) → Within (most + lent p) (withPadding p modifier (sizeBacking (c .source) id (c .fields)) array)
+      by : (p : MaybeNumber) → Within (most + paddedBytes p) (withPadding p modifier (sizeBacking (c .source) id (c .fields)) array)
       by MaybeNumber.None = wider (array-short array short modifier _ (modified modifier e)) (omega (arith, shape-most id width type))
       by (MaybeNumber.Some bits) =
           wider (padded-short array short (bits / 8) modifier _ (modified modifier e)) (omega (arith, shape-most id width type))
 
   -- ---- each field, by its kind
 
-  small : (e : Emit) (padded : MaybeNumber) → EmitFits 1024 e → EmitFits (most + lent padded) e
+  small : (e : Emit) (padded : MaybeNumber) → EmitFits plainField e → EmitFits (most + paddedBytes padded) e
   small (appends b) padded w = wider w (omega (arith, plain-most))
   small silent padded w = tt
   small (refuses why) padded w = w
 
-  other-fits : (shift : ℕ) (a : Annotated) (later : List Annotated) (d : FieldDesc) → DescIs Short' d → badNumber d ≡ false
-      → EmitFits (share most d + lent (a .paddedSize)) (parseOther c shift a later d)
+  other-fits : (shift : ℕ) (a : Annotated) (later : List Annotated) (d : FieldDesc) → DescIs Named d → badNumber d ≡ false
+      → EmitFits (share most d + paddedBytes (a .paddedSize)) (parseOther c shift a later d)
   unfolding parseOther parseTypedefField
   other-fits shift a later (FieldDesc.Checksum of) h e = tt
   other-fits shift a later (FieldDesc.Padding size) h e = tt
@@ -444,10 +269,10 @@ module _ (c : Setting) where
   other-fits shift a later (FieldDesc.Flag id) h e = tt
   other-fits shift a later (FieldDesc.Typedef id type) h e =
       small (onBoundary shift (typedefBySize c id type later (a .fieldSize))) (a .paddedSize)
-      (boundary-fits 1024 shift (typedefBySize c id type later (a .fieldSize)) (typedef-fits id type later (a .fieldSize) (h .0) (h .1)))
+      (boundary-fits plainField shift (typedefBySize c id type later (a .fieldSize)) (typedef-fits id type later (a .fieldSize) (h .0) (h .1)))
 
-  optional-fits : (cond : Part) (v : ℕ) (d : FieldDesc) (padded : MaybeNumber) → Short' cond → DescIs Short' d
-      → EmitFits (share most d + lent padded) (parseOptionalField c cond v d)
+  optional-fits : (cond : Part) (v : ℕ) (d : FieldDesc) (padded : MaybeNumber) → Named cond → DescIs Named d
+      → EmitFits (share most d + paddedBytes padded) (parseOptionalField c cond v d)
   unfolding parseOptionalField
   optional-fits cond v (FieldDesc.Checksum of) padded g h = omega arith
   optional-fits cond v (FieldDesc.Padding size) padded g h = omega arith
@@ -487,18 +312,18 @@ module _ (c : Setting) where
 
   -- short names, and numbers in their ranges
   abbrev pub Plain : Field → Type 0
-  Plain f = FieldIs Short' f × (badNumber (f .desc) ≡ false)
+  Plain f = FieldIs Named f × (badNumber (f .desc) ≡ false)
 
   abbrev pub AllPlain : List Field → Type 0
   AllPlain [] = Unit {0}
   AllPlain (f ∷ fs) = Plain f × AllPlain fs
 
   unchecked-fits : (shift : ℕ) (a : Annotated) (later : List Annotated) → Plain (a .field)
-      → EmitFits (share most (a .field .desc) + lent (a .paddedSize)) (parseUnchecked c shift a later)
+      → EmitFits (share most (a .field .desc) + paddedBytes (a .paddedSize)) (parseUnchecked c shift a later)
   unfolding parseUnchecked
   unchecked-fits shift a later h = by (a .field .cond) (h .0 .1)
     where
-      by : (k : Cond) → CondIs Short' k → EmitFits (share most (a .field .desc) + lent (a .paddedSize)) (elim k [
+      by : (k : Cond) → CondIs Named k → EmitFits (share most (a .field .desc) + paddedBytes (a .paddedSize)) (elim k [
         | Cond.None ↦ parseOther c shift a later (a .field .desc)
         | Cond.Some id value ↦ parseOptionalField c id value (a .field .desc)
       ])
@@ -506,7 +331,7 @@ module _ (c : Setting) where
       by (Cond.Some id value) g = optional-fits id value (a .field .desc) (a .paddedSize) g (h .0 .0)
 
   parse-fits : (n : ℕ) (p : FieldParser) (a : Annotated) (later : List Annotated) → Plain (a .field) → Holds n p
-      → StepFits (n + (share most (a .field .desc) + lent (a .paddedSize))) (parse c p a later)
+      → StepFits (n + (share most (a .field .desc) + paddedBytes (a .paddedSize))) (parse c p a later)
   unfolding parse isBit
   parse-fits n p a later h g = by (isBit c (a .field)) (bit (a .field .cond))
     where
@@ -516,7 +341,7 @@ module _ (c : Setting) where
       bit (Cond.Some id value) e = impossible (cc)
 
       by : (b : Bool) → (b ≡ true → bitField ≤ share most (a .field .desc))
-          → StepFits (n + (share most (a .field .desc) + lent (a .paddedSize))) (elim b [
+          → StepFits (n + (share most (a .field .desc) + paddedBytes (a .paddedSize))) (elim b [
             | true ↦ parseBitField c p a
             | false ↦ andThen (checkCode c p) λ q. emitted q (parseUnchecked c (q .shift) a later)
           ])
@@ -531,7 +356,7 @@ module _ (c : Setting) where
   all-fit n p [] h g = more-room g (omega arith)
   all-fit n p (f ∷ later) h g =
       let a : Annotated = record { field = f; fieldSize = annotateField (c .source) (c .scope) (c .fields) f; paddedSize = paddedBy later } in
-      let m : ℕ = n + (share most (f .desc) + lent (paddedBy later)) in
+      let m : ℕ = n + (share most (f .desc) + paddedBytes (paddedBy later)) in
       let more : List Annotated = annotateFields (c .source) (c .scope) (c .fields) later in
       step-wider (andThen (parse c p a more) λ q. parseAll c q more)
       (then-fits m (m + shares most later) (parse c p a more) (λ q. parseAll c q more) (parse-fits n p a more (h .0) g) (λ q k. all-fit m q later (h .1) k))

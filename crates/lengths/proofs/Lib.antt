@@ -1,8 +1,9 @@
-pub mod Impossible
+pub mod Booleans
 pub mod Digits
 pub mod Shapes
-pub mod Pieces
-pub mod Bits
+pub mod Others
+pub mod Runs
 pub mod Names
+pub mod Steps
 pub mod Fields
 pub mod Longest

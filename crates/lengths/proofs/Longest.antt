@@ -4,10 +4,10 @@
 use mathlib.Core.Bool.{Bool, true, false, _||_}
 use mathlib.Core.List.{List, [], _∷_, _++_}
 use mathlib.Core.Path.{_≡_, refl, subst}
-use Prim.Native.Nat.{ℕ, suc, _+_, _*_, _≤_, _<_}
+use Prim.Native.Nat.{ℕ, _+_, _*_, _≤_, _<_}
 use native.Mathlib.Nat.{mul-suc}
 use native.Mathlib.Omega.{arith}
-use lib.Dec.{leb, ltb}
+use lib.Dec.{ltb}
 use lib.ListN.{length}
 use borrow.Author.Tests.{ltb-false, le-leb}
 use Rattle.definitions.specs.Bytes.{Text, pick, any}
@@ -17,62 +17,64 @@ use Rattle.definitions.specs.Refusals.{tooMany, duplicateName, unknownName, out
 use Rattle.definitions.specs.Lines.{render}
 use Rattle.definitions.specs.Blocks.{Block, program}
 use Rattle.definitions.specs.FieldParser.{Outcome, refused, accepted}
-use Rattle.definitions.specs.Answer.{settingOf, lowerTarget, lowerIn, lowerRecord, answerRead, wrongLength, answer, fitted, lowered, lower, turnedBack}
+use Rattle.definitions.specs.Answer.{settingOf, lowerTarget, lowerIn, lowerRecord, answerRead, wrongLength, answer, fitted, lowered, lower}
 use Rattle.definitions.specs.declared.MaybeNumber.{MaybeNumber}
 use Rattle.definitions.specs.declared.Head.{Head}
 use Rattle.definitions.specs.declared.Field.{Field}
 use Rattle.definitions.specs.declared.Reference.{Reference}
+use Rattle.definitions.specs.declared.ElementSize.{ElementSize}
 use Rattle.definitions.specs.declared.Refusal.{Refusal}
 use Rattle.definitions.specs.declared.Verdict.{Verdict}
-use Rattle.lengths.specs.Shares.{mostBytes, bitField, lent, byReference, share, shares, isElementSize, mostOf}
-use Rattle.lengths.proofs.Impossible.{impossible, neither}
+use Rattle.lengths.specs.Shares.{mostBytes, plainField, bitField, modifierLine, shape, paddedBytes, shareBy, shares, isElementSize, mostOf}
+use Rattle.lengths.proofs.Booleans.{impossible, neither}
 use Rattle.lengths.proofs.Names.{FieldsAre, DeclarationsAre, RecordOk, ShortName, names-short}
-use Rattle.lengths.proofs.Fields.{Below, OutcomeFits, Plain, AllPlain, lower-fits}
+use Rattle.lengths.proofs.Steps.{Below, OutcomeFits}
+use Rattle.lengths.proofs.Fields.{AllPlain, lower-fits}
 
 -- ---- the shares of up to 64 fields
 
-module _ (m : ℕ) (h : 1024 ≤ m) where
-  -- what the first field has for the array before it is in its own share
-  shares-most : (xs : List Field) → lent (paddedBy xs) + shares m xs ≤ m * length xs
+module _ (m : ℕ) (h : plainField ≤ m) where
+  -- a field's own share, and what it adds to the array before it
+  one-most : (p : MaybeNumber) (r : Reference) → paddedBytes p + shareBy m p r ≤ m
+  one-most (MaybeNumber.Some bits) r = omega arith
+  one-most MaybeNumber.None Reference.None = omega arith
+  one-most MaybeNumber.None (Reference.Size of width) = omega arith
+  one-most MaybeNumber.None (Reference.Count of) = omega arith
+  one-most MaybeNumber.None (Reference.ElementSize of) = omega arith
+
+  -- less, where it is an element size field
+  one-given : (p : MaybeNumber) (r : Reference) → isElementSize r ≡ true → paddedBytes p + shareBy m p r ≤ bitField
+  one-given (MaybeNumber.Some bits) r e = omega arith
+  one-given MaybeNumber.None Reference.None e = impossible (cc)
+  one-given MaybeNumber.None (Reference.Size of width) e = impossible (cc)
+  one-given MaybeNumber.None (Reference.Count of) e = impossible (cc)
+  one-given MaybeNumber.None (Reference.ElementSize of) e = omega arith
+
+  shares-most : (xs : List Field) → paddedBytes (paddedBy xs) + shares m xs ≤ m * length xs
   unfolding shares
   shares-most [] = omega arith
-  shares-most (f ∷ xs) = by (paddingBits (f .desc)) (reference (f .desc)) (shares-most xs)
-    where
-      by : (p : MaybeNumber) (r : Reference) → lent (paddedBy xs) + shares m xs ≤ m * length xs
-          → lent p + (elim p [ MaybeNumber.None ↦ byReference m r | MaybeNumber.Some bits ↦ 0 ] + lent (paddedBy xs) + shares m xs) ≤ m * suc (length xs)
-      by (MaybeNumber.Some bits) r k = omega (arith, h, k, mul-suc m (length xs))
-      by MaybeNumber.None Reference.None k = omega (arith, h, k, mul-suc m (length xs))
-      by MaybeNumber.None (Reference.Size of width) k = omega (arith, h, k, mul-suc m (length xs))
-      by MaybeNumber.None (Reference.Count of) k = omega (arith, h, k, mul-suc m (length xs))
-      by MaybeNumber.None (Reference.ElementSize of) k = omega (arith, h, k, mul-suc m (length xs))
+  shares-most (f ∷ xs) = omega (arith, one-most (paddingBits (f .desc)) (reference (f .desc)), shares-most xs, mul-suc m (length xs))
 
-  -- an element size field among them gives less
-  shares-given : (xs : List Field) → anyReference isElementSize xs ≡ true → lent (paddedBy xs) + shares m xs + m ≤ m * length xs + bitField
+  shares-given : (xs : List Field) → anyReference isElementSize xs ≡ true → paddedBytes (paddedBy xs) + shares m xs + m ≤ m * length xs + bitField
   unfolding shares
   shares-given [] e = impossible (cc)
-  shares-given (f ∷ xs) e = by (paddingBits (f .desc)) (reference (f .desc)) e (shares-most xs) (shares-given xs)
+  shares-given (f ∷ xs) e = by (shares-given xs) (isElementSize (reference (f .desc))) refl e
     where
-      by : (p : MaybeNumber) (r : Reference) → (isElementSize r || anyReference isElementSize xs) ≡ true → lent (paddedBy xs) + shares m xs ≤ m * length xs
-          → (anyReference isElementSize xs ≡ true → lent (paddedBy xs) + shares m xs + m ≤ m * length xs + bitField)
-          → lent p + (elim p [ MaybeNumber.None ↦ byReference m r | MaybeNumber.Some bits ↦ 0 ] + lent (paddedBy xs) + shares m xs) + m
-          ≤ m * suc (length xs) + bitField
-      by (MaybeNumber.Some bits) Reference.None g k more = omega (arith, h, more g, mul-suc m (length xs))
-      by (MaybeNumber.Some bits) (Reference.Size of width) g k more = omega (arith, h, more g, mul-suc m (length xs))
-      by (MaybeNumber.Some bits) (Reference.Count of) g k more = omega (arith, h, more g, mul-suc m (length xs))
-      by (MaybeNumber.Some bits) (Reference.ElementSize of) g k more = omega (arith, h, k, mul-suc m (length xs))
-      by MaybeNumber.None Reference.None g k more = omega (arith, h, more g, mul-suc m (length xs))
-      by MaybeNumber.None (Reference.Size of width) g k more = omega (arith, h, more g, mul-suc m (length xs))
-      by MaybeNumber.None (Reference.Count of) g k more = omega (arith, h, more g, mul-suc m (length xs))
-      by MaybeNumber.None (Reference.ElementSize of) g k more = omega (arith, h, k, mul-suc m (length xs))
+      by : (anyReference isElementSize xs ≡ true → paddedBytes (paddedBy xs) + shares m xs + m ≤ m * length xs + bitField)
+          → (b : Bool) → isElementSize (reference (f .desc)) ≡ b → (b || anyReference isElementSize xs) ≡ true
+          → paddedBytes (paddedBy (f ∷ xs)) + shares m (f ∷ xs) + m ≤ m * length (f ∷ xs) + bitField
+      by more true g k =
+          omega (arith, one-given (paddingBits (f .desc)) (reference (f .desc)) g, shares-most xs, mul-suc m (length xs))
+      by more false g k = omega (arith, one-most (paddingBits (f .desc)) (reference (f .desc)), more k, mul-suc m (length xs))
 
 -- 63 arrays and one element size field, or 64 other fields
 shares-fit : (fs : List Field) → length fs ≤ 64 → shares (mostOf fs) fs ≤ mostBytes
 unfolding mostOf
 shares-fit fs h = by (anyReference isElementSize fs) refl
   where
-    by : (b : Bool) → anyReference isElementSize fs ≡ b → shares (pick b 1032 1024) fs ≤ mostBytes
-    by true e = omega (arith, h, shares-given 1032 (omega arith) fs e)
-    by false e = omega (arith, h, shares-most 1024 (omega arith) fs)
+    by : (b : Bool) → anyReference isElementSize fs ≡ b → shares (pick b (modifierLine + shape ElementSize.Dynamic) plainField) fs ≤ mostBytes
+    by true e = omega (arith, h, shares-given (modifierLine + shape ElementSize.Dynamic) (omega arith) fs e)
+    by false e = omega (arith, h, shares-most plainField (omega arith) fs)
 
 -- ---- the target of the record
 
@@ -81,17 +83,21 @@ module _ (s : Text) (h : Head) where
   abbrev many : Declaration → Bool
   many d = ltb 64 (length (d .fields))
 
+  abbrev wrongField : Field → Bool
+  wrongField f = badNumber (f .desc)
+
   abbrev wrong : Declaration → Bool
-  wrong d = badDecl (d .decl .desc) || any (λ (f : Field). badNumber (f .desc)) (d .fields)
+  wrong d = badDecl (d .decl .desc) || any wrongField (d .fields)
 
   target-fits : (rows : List Row) (d : Declaration) → FieldsAre (ShortName s) (d .fields) → many d ≡ false → wrong d ≡ false
       → OutcomeFits mostBytes (lowerTarget s h (annotateDecl s rows d))
   target-fits rows d names few fine =
-      outcome (lowerTarget s h (annotateDecl s rows d)) (lower-fits (settingOf s h (annotateDecl s rows d)) (plain (d .fields) names (neither (badDecl (d .decl .desc)) (any (λ (f : Field). badNumber (f .desc)) (d .fields)) fine .1)))
+      outcome (lowerTarget s h (annotateDecl s rows d))
+      (lower-fits (settingOf s h (annotateDecl s rows d)) (plain (d .fields) names (neither (badDecl (d .decl .desc)) (any wrongField (d .fields)) fine .1)))
     where
-      plain : (fs : List Field) → FieldsAre (ShortName s) fs → any (λ (f : Field). badNumber (f .desc)) fs ≡ false → AllPlain (settingOf s h (annotateDecl s rows d)) fs
+      plain : (fs : List Field) → FieldsAre (ShortName s) fs → any wrongField fs ≡ false → AllPlain (settingOf s h (annotateDecl s rows d)) fs
       plain [] n e = tt
-      plain (f ∷ fs) n e = let k = neither (badNumber (f .desc)) (any (λ (x : Field). badNumber (x .desc)) fs) e in ((n .0, k .0), plain fs (n .1) (k .1))
+      plain (f ∷ fs) n e = let k = neither (wrongField f) (any wrongField fs) e in ((n .0, k .0), plain fs (n .1) (k .1))
 
       outcome : (o : Outcome) → OutcomeFits (shares (mostOf (d .fields)) (d .fields)) o → OutcomeFits mostBytes o
       outcome (refused why) k = k
@@ -104,8 +110,9 @@ module _ (s : Text) (h : Head) where
   lower-in-fits rows (d ∷ ds) names few fine =
       let f = neither (many d) (any many ds) few in
       let g = neither (wrong d) (any wrong ds) fine in
-      by (lowerTarget s h (annotateDecl s rows d)) (lowerIn s h (annotateFrom s (rows ++ (annotateDecl s rows d .row ∷ [])) ds))
-      (target-fits rows d (names .0) (f .0) (g .0)) (lower-in-fits (rows ++ (annotateDecl s rows d .row ∷ [])) ds (names .1) (f .1) (g .1)) (isTarget s h (annotateDecl s rows d))
+      let next : List Row = rows ++ (annotateDecl s rows d .row ∷ []) in
+      by (lowerTarget s h (annotateDecl s rows d)) (lowerIn s h (annotateFrom s next ds)) (target-fits rows d (names .0) (f .0) (g .0))
+      (lower-in-fits next ds (names .1) (f .1) (g .1)) (isTarget s h (annotateDecl s rows d))
     where
       by : (a b : Outcome) → OutcomeFits mostBytes a → OutcomeFits mostBytes b → (t : Bool) → OutcomeFits mostBytes (elim t [ true ↦ a | false ↦ b ])
       by a b j k true = j

@@ -3,11 +3,11 @@
 use mathlib.Core.Bool.{Bool, true, false}
 use mathlib.Core.List.{List, [], _∷_}
 use mathlib.Core.Path.{_≡_, refl}
-use Prim.Native.Nat.{ℕ, zero, suc, _+_, _-_, _≤_, _<_}
+use Prim.Native.Nat.{ℕ, zero, suc, _+_, _-_, _≤_}
 use native.Mathlib.Decide.{decLt}
 use native.Mathlib.Omega.{arith}
 use lib.Dec.{ltb, eqb}
-use lib.ListN.{length, take, drop, length-take}
+use lib.ListN.{length, drop, length-take}
 use borrow.Author.Tests.{eqb-false}
 use Rattle.definitions.specs.Bytes.{Text, text, part, isDigit, isWord}
 use Rattle.definitions.specs.Record.{keyOf, keyAt, partOf, wordOf, nameOf, isForbidden, nameAt, onFound, onNumber, onName, onModifier, onMaybeNumber, onMaybePart, onPart, onDesc, onCond, onField, onHead, onDecl, onFields, numberLine, nameLine, maybeNumberLine, maybeNameAt, maybeNameLine, modifierLine, namedWidth, scalarAt, sizeAt, countAt, elementSizeAt, fixedScalarAt, fixedEnumAt, reservedAt, flagAt, typedefAt, oneArray, arrayRest, arrayAt, payloadAt, paddingAt, checksumAt, Kinds, choose, kinds, descAt, condAt, fieldAt, headAt, declAt, Declaration, Fields, fieldsAre, noFields, Declarations, declarationsAre, noDeclarations, RecordRead, recordIs, noRecord, withField, fieldsAt, fieldsBehind, withDeclaration, declarationsAt, withHead, readRecord}
@@ -33,6 +33,11 @@ use Rattle.definitions.specs.declared.FieldRead.{FieldRead}
 use Rattle.definitions.specs.declared.HeadRead.{HeadRead}
 use Rattle.definitions.specs.declared.DeclRead.{DeclRead}
 
+-- a pair, and so pairs in pairs
+_&_ : {A B : Type 0} → A → B → A × B
+a & b = (a, b)
+
+infixr 20 _&_
 -- ---- what holds of the names of a field holds of those of the record
 
 module _ (P : Part → Type 0) where
@@ -240,29 +245,33 @@ module _ (P : Part → Type 0) where
     unfolding descAt
     desc-ok at =
         choose-ok (drop at s) at kinds
-        (scalar-ok, (size-ok, (count-ok, (elementSize-ok, (fixedScalar-ok, (fixedEnum-ok, (reserved-ok, (flag-ok, (typedef-ok, (array-ok, (payload-ok, ((λ p. tt), (padding-ok, (checksum-ok, tt))))))))))))))
+        (scalar-ok & size-ok & count-ok & elementSize-ok & fixedScalar-ok & fixedEnum-ok & reserved-ok & flag-ok & typedef-ok & array-ok & payload-ok
+        & (λ p. tt) & padding-ok & checksum-ok & tt)
 
     cond-ok : (at : ℕ) → CondOk (condAt s at)
     unfolding condAt
     cond-ok at = on-maybePart CondOk CondRead.Wrong tt (maybeNameLine s at (text "if=")) _ (maybe-line at (text "if=")) by
       where
         by : (n : MaybePart) (p : ℕ) → MaybeIs n
-            → CondOk (onPart n (CondRead.Is Cond.None p) λ id. onNumber (numberLine s p (text "is=")) CondRead.Wrong λ value q. CondRead.Is (Cond.Some id value) q)
+            → CondOk (onPart n (CondRead.Is Cond.None p) λ id.
+            onNumber (numberLine s p (text "is=")) CondRead.Wrong λ value q. CondRead.Is (Cond.Some id value) q)
         by MaybePart.None p k = tt
         by (MaybePart.Some id) p k = on-number CondOk CondRead.Wrong tt (numberLine s p (text "is=")) _ (λ v q. k)
 
     field-ok : (at : ℕ) → FieldOk (fieldAt s at)
     unfolding fieldAt
-    field-ok at = by (descAt s at) (desc-ok at)
+    field-ok at = desc (descAt s at) (desc-ok at)
       where
-        cond : (d : FieldDesc) → DescIs d → (r : CondRead) → CondOk r → FieldOk (onCond r FieldRead.Wrong λ c q. FieldRead.Is (record { key = at; desc = d; cond = c }) q)
+        is : FieldDesc → Cond → ℕ → FieldRead
+        is d c q = FieldRead.Is (record { key = at; desc = d; cond = c }) q
+
+        cond : (d : FieldDesc) → DescIs d → (r : CondRead) → CondOk r → FieldOk (onCond r FieldRead.Wrong (is d))
         cond d h CondRead.Wrong k = tt
         cond d h (CondRead.Is c q) k = (h, k)
 
-        by : (r : DescRead) → DescOk r
-            → FieldOk (onDesc r FieldRead.Wrong λ desc p. onCond (condAt s p) FieldRead.Wrong λ c q. FieldRead.Is (record { key = at; desc = desc; cond = c }) q)
-        by DescRead.Wrong h = tt
-        by (DescRead.Is d p) h = cond d h (condAt s p) (cond-ok p)
+        desc : (r : DescRead) → DescOk r → FieldOk (onDesc r FieldRead.Wrong λ d p. onCond (condAt s p) FieldRead.Wrong (is d))
+        desc DescRead.Wrong h = tt
+        desc (DescRead.Is d p) h = cond d h (condAt s p) (cond-ok p)
 
     with-field : (x : Field) (r : Fields) → FieldIs x → FieldsOk r → FieldsOk (withField x r)
     with-field x (fieldsAre xs p) h k = (h, k)
@@ -364,7 +373,8 @@ name-short s at = by (isForbidden s at)
     word [] = tt
     word (x ∷ r) = first (isDigit x) (eqb x 10)
       where
-        first : (b c : Bool) → NameIs (ShortName s) (elim b [ true ↦ NameRead.Wrong | false ↦ elim c [ true ↦ NameRead.Wrong | false ↦ wordOf (x ∷ r) at 0 at ] ])
+        first : (b c : Bool)
+            → NameIs (ShortName s) (elim b [ true ↦ NameRead.Wrong | false ↦ elim c [ true ↦ NameRead.Wrong | false ↦ wordOf (x ∷ r) at 0 at ] ])
         first true c = tt
         first false true = tt
         first false false = word-short s (x ∷ r) at 0 at (omega arith) (omega arith)

@@ -1,8 +1,9 @@
--- How many bytes of lines a field of the target can give, and how many all of them.
+-- How many bytes of lines each field of the target gives at most, its share, and how many all of them give. A padding and an element size field give
+-- less than their share of 65,536 bytes by 64 fields, and pay for the longest arrays.
 -- Assumes nothing.
 use mathlib.Core.Bool.{Bool, true, false}
 use mathlib.Core.List.{List, [], _∷_}
-use Prim.Native.Nat.{ℕ, _+_, _*_}
+use Prim.Native.Nat.{ℕ, _+_}
 use Rattle.definitions.specs.Bytes.{pick}
 use Rattle.definitions.specs.Sizes.{reference, anyReference, paddingBits, paddedBy}
 use Rattle.definitions.specs.declared.MaybeNumber.{MaybeNumber}
@@ -11,56 +12,60 @@ use Rattle.definitions.specs.declared.Field.{Field}
 use Rattle.definitions.specs.declared.Reference.{Reference}
 use Rattle.definitions.specs.declared.ElementSize.{ElementSize}
 
--- the lines of an accepted record have at most so many bytes
+-- the lines of an accepted record
 abbrev pub mostBytes : ℕ
 mostBytes = 65536
 
--- ---- what a field gives
+-- ---- one field
 
--- an array's lines, without the line of its modifier and those of its padding
-abbrev pub shape : ElementSize → ℕ
-shape (ElementSize.Static es) = 918
-shape ElementSize.Dynamic = 926
-shape ElementSize.Unknown = 918
-
--- the modifier's line
-abbrev pub modifierLine : ℕ
-modifierLine = 106
+-- a field that is no array of Dynamic element size
+abbrev pub plainField : ℕ
+plainField = 1024
 
 -- a bit field: its own lines, the read of its chunk and the check of its run
 abbrev pub bitField : ℕ
 bitField = 517
 
--- the lines around a padded array: the padding's, which emits none itself
+-- the line of an array's size modifier
+abbrev pub modifierLine : ℕ
+modifierLine = 106
+
+-- an array without its modifier and its padding
+abbrev pub shape : ElementSize → ℕ
+shape (ElementSize.Static es) = 918
+shape ElementSize.Dynamic = 926
+shape ElementSize.Unknown = 918
+
+-- the lines that a padding adds to the array before it; the padding itself emits none
 abbrev pub padding : ℕ
 padding = 507
 
-abbrev pub lent : MaybeNumber → ℕ
-lent MaybeNumber.None = 0
-lent (MaybeNumber.Some bits) = padding
+abbrev pub paddedBytes : MaybeNumber → ℕ
+paddedBytes MaybeNumber.None = 0
+paddedBytes (MaybeNumber.Some bits) = padding
 
--- ---- what all fields give, where m is the most that one gives which is neither a padding nor an element size field
+-- ---- all fields of the target: m is the share of a field that is neither a padding nor an element size field
 
-abbrev pub byReference : ℕ → Reference → ℕ
-byReference m Reference.None = m
-byReference m (Reference.Size of width) = m
-byReference m (Reference.Count of) = m
-byReference m (Reference.ElementSize of) = bitField
+abbrev pub shareBy : ℕ → MaybeNumber → Reference → ℕ
+shareBy m (MaybeNumber.Some bits) r = 0
+shareBy m MaybeNumber.None Reference.None = m
+shareBy m MaybeNumber.None (Reference.Size of width) = m
+shareBy m MaybeNumber.None (Reference.Count of) = m
+shareBy m MaybeNumber.None (Reference.ElementSize of) = bitField
 
 abbrev pub share : ℕ → FieldDesc → ℕ
-share m d = elim (paddingBits d) [ MaybeNumber.None ↦ byReference m (reference d) | MaybeNumber.Some bits ↦ 0 ]
+share m d = shareBy m (paddingBits d) (reference d)
 
 unfoldable pub shares : ℕ → List Field → ℕ
 shares m [] = 0
-shares m (f ∷ later) = share m (f .desc) + lent (paddedBy later) + shares m later
+shares m (f ∷ later) = share m (f .desc) + paddedBytes (paddedBy later) + shares m later
 
--- an array has elements of a size that the packet gives only where an element size field names it
 abbrev pub isElementSize : Reference → Bool
 isElementSize Reference.None = false
 isElementSize (Reference.Size of width) = false
 isElementSize (Reference.Count of) = false
 isElementSize (Reference.ElementSize of) = true
 
--- the most that one field gives
+-- only where there is an element size field, there are arrays of Dynamic element size
 unfoldable pub mostOf : List Field → ℕ
-mostOf fs = pick (anyReference isElementSize fs) 1032 1024
+mostOf fs = pick (anyReference isElementSize fs) (modifierLine + shape ElementSize.Dynamic) plainField

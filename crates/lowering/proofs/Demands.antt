@@ -7,7 +7,6 @@ use mathlib.Core.Option.{some}
 use mathlib.Core.Path.{_≡_, refl, sym, ap, _∙_, subst}
 use Prim.Native.Nat.{ℕ, _+_, _*_, _/_, _%_, _^_, _≤_, _<_}
 use native.Mathlib.Omega.{arith}
-use borrow.Author.Tests.{leb-true}
 use lib.Dec.{leb}
 use lib.ListN.{length, drop}
 use Rattle.definitions.specs.Bytes.{Text}
@@ -17,6 +16,9 @@ use Rattle.definitions.specs.Blocks.{Block, program}
 use Rattle.definitions.specs.FieldParser.{Outcome, refused, accepted}
 use Rattle.definitions.specs.Answer.{answer, Lowered, turnedBack, fitted, lowered, lower, word, bufferAfter}
 use Rattle.definitions.specs.declared.Refusal.{Refusal}
+use Rattle.lengths.specs.Shares.{mostBytes}
+use Rattle.lengths.proofs.Steps.{OutcomeFits}
+use Rattle.lengths.proofs.Longest.{fits, enough}
 use Rattle.meaning.specs.Runs.{Target, targetOf, setting}
 use Rattle.meaning.specs.Places.{BitField}
 use Rattle.meaning.proofs.Demands.{Demand3, demand-3, Demand2Bits, bits, has-target, printed}
@@ -59,40 +61,42 @@ ties s out r left number buffer small =
 
 -- ==== What a build host reads off the number
 
--- the lines fit, or there are none
-data Shape (room : ℕ) (l : Lowered) : Type 0 where
-  fit : l .answered ≡ 0 → length (l .lines) ≤ room → Shape room l
-  none : l .lines ≡ [] → Shape room l
+-- the lines are short, or there are none
+data Shape (l : Lowered) : Type 0 where
+  short : l .answered ≡ 0 → length (l .lines) ≤ mostBytes → Shape l
+  none : l .lines ≡ [] → Shape l
 
-shape : (room : ℕ) (o : Outcome) → Shape room (lowered room o)
+shape : (room : ℕ) (o : Outcome) → OutcomeFits mostBytes o → Shape (lowered room o)
 unfolding lowered fitted
-shape room (refused why) = Shape.none refl
-shape room (accepted bs) = by (leb (length (render (program bs))) room) refl
+shape room (refused why) h = Shape.none refl
+shape room (accepted bs) h = by (leb (length (render (program bs))) room)
   where
-    by : (b : Bool) → leb (length (render (program bs))) room ≡ b
-        → Shape room (elim b [ true ↦ record { answered = 0; lines = render (program bs) } | false ↦ turnedBack Refusal.NoRoom ])
-    by true h = Shape.fit refl (leb-true (length (render (program bs))) room h)
-    by false h = Shape.none refl
+    by : (b : Bool) → Shape (elim b [ true ↦ record { answered = 0; lines = render (program bs) } | false ↦ turnedBack Refusal.NoRoom ])
+    by true = Shape.short refl h
+    by false = Shape.none refl
 
--- With a buffer of less than 2^32 bytes the two parts of the number are the answer and the length, and a record that is turned back changes no byte.
+-- The two parts of the number are the answer and the length, and a record that is turned back changes no byte. No record needs more than 65,536 bytes.
 pub record Read (s out : Text) (r : ℕ) (left : Text) : Type 0 where
   pub answer-is : r / 2 ^ 32 ≡ lower s (length out) .answered
   pub length-is : r % 2 ^ 32 ≡ length (lower s (length out) .lines)
   pub refused-unchanged : 2 ^ 32 ≤ r → left ≡ out
+  pub never-15 : mostBytes ≤ length out → r / 2 ^ 32 < 15
 
 pub reads : (s out : Text) (r : ℕ) (left : Text)
     → r ≡ word (lower s (length out)) → left ≡ bufferAfter (lower s (length out)) out
-    → length out < 2 ^ 32 → Read s out r left
-reads s out r left number buffer small = by (shape (length out) (answer s))
+    → Read s out r left
+reads s out r left number buffer = by (shape (length out) (answer s) (fits s))
   where
-    by : Shape (length out) (lower s (length out)) → Read s out r left
-    by (Shape.fit e h) = record {
-      answer-is = omega (arith, number, small, e, h);
-      length-is = omega (arith, number, small, e, h);
-      refused-unchanged = λ w. absurd (omega (arith, number, small, e, h, w));
+    by : Shape (lower s (length out)) → Read s out r left
+    by (Shape.short e h) = record {
+      answer-is = omega (arith, number, e, h);
+      length-is = omega (arith, number, e, h);
+      refused-unchanged = λ w. absurd (omega (arith, number, e, h, w));
+      never-15 = λ w. omega (arith, number, e, h);
     }
     by (Shape.none e) = record {
       answer-is = omega (arith, number, ap length e);
       length-is = omega (arith, number, ap length e);
       refused-unchanged = λ w. buffer ∙ ap (λ (t : Text). t ++ drop (length t) out) e;
+      never-15 = λ w. omega (arith, number, ap length e, enough s (length out) w);
     }

@@ -2,18 +2,18 @@
 -- Assumes nothing.
 use mathlib.Core.Bool.{Bool, true, false}
 use mathlib.Core.List.{List, [], _∷_, _++_}
-use mathlib.Core.Path.{_≡_, refl, sym, ap, subst}
-use Prim.Native.Nat.{ℕ, zero, suc, _+_, _*_, _/_, _≤_, _<_}
+use mathlib.Core.Path.{_≡_, refl, ap}
+use Prim.Native.Nat.{ℕ, _+_, _*_, _/_, _≤_, _<_}
 use native.Mathlib.Omega.{arith}
 use lib.ListN.{length, length-append}
-use Rattle.definitions.specs.Bytes.{Text, text, pick, decimal, hexadecimal}
-use Rattle.definitions.specs.Lines.{Expr, Src, Line, Stmt, linesText, stmtsText, render}
-use Rattle.definitions.specs.Blocks.{span, body, checkSize, Kind, Bit, Chunk, widths, getCxxScalarType, readOf, mask, kindLines, shouldSkipValue, chunkName, bitsLines, readLines, chunkLines, chunksLines, Block}
+use Rattle.definitions.specs.Bytes.{Text, pick, decimal, hexadecimal}
+use Rattle.definitions.specs.Lines.{Src, Line, Stmt, lineText, linesText, render}
+use Rattle.definitions.specs.Blocks.{span, body, Kind, Bit, Chunk, widths, getCxxScalarType, readOf, mask, kindLines, shouldSkipValue, chunkName, bitsLines, readLines, chunkLines, chunksLines, Block}
 use Rattle.definitions.specs.declared.EndiannessValue.{EndiannessValue}
 use Rattle.lengths.specs.Shares.{bitField}
 use Rattle.lengths.proofs.Digits.{decimal-any, decimal-width, decimal-bytes, hexadecimal-any, mask-short}
 use Rattle.lengths.proofs.Shapes.{order-length, scalar-type}
-use Rattle.lengths.proofs.Pieces.{Within}
+use Rattle.lengths.proofs.Others.{Within}
 
 -- ---- one field
 
@@ -36,41 +36,33 @@ abbrev pub AllShort : ℕ → List Bit → Type 0
 AllShort end [] = Unit {0}
 AllShort end (b ∷ bs) = BitShort end b × AllShort end bs
 
--- the bits of a chunk that is held in a variable
-held-lines : (nr shift w : ℕ) (k : Kind) (u : Text) → KindShort k → shift + w ≤ 64
-    → length (linesText 0 (kindLines (Src.bits (chunkName nr) shift (mask w)) k) u) ≤ 297 + length u
-held-lines nr shift w (Kind.number x) u h e =
-    simp length-append (omega (arith, decimal-any nr, decimal-width shift (omega arith), mask-short w (omega arith)))
-held-lines nr shift w (Kind.condition x) u h e =
-    simp length-append (omega (arith, decimal-any nr, decimal-width shift (omega arith), mask-short w (omega arith)))
-held-lines nr shift w (Kind.openEnum x type) u h e =
-    simp length-append (omega (arith, decimal-any nr, decimal-width shift (omega arith), mask-short w (omega arith)))
-held-lines nr shift w (Kind.closedEnum x type) u h e =
-    simp length-append (omega (arith, decimal-any nr, decimal-width shift (omega arith), mask-short w (omega arith)))
-held-lines nr shift w (Kind.fixedScalar n) u h e =
-    simp length-append
-    (omega (arith, decimal-any nr, decimal-width shift (omega arith), mask-short w (omega arith), hexadecimal-any n))
-held-lines nr shift w (Kind.fixedEnum type tag) u h e =
-    simp length-append (omega (arith, decimal-any nr, decimal-width shift (omega arith), mask-short w (omega arith)))
-held-lines nr shift w Kind.reserved u h e = omega arith
+-- the bits of a chunk that is held in a variable: the numbers of the chunk, of the shift and of the mask
+module _ (nr shift w : ℕ) (a : length (decimal nr) ≤ 64) (b : length (decimal shift) ≤ 2) (c : length (hexadecimal (mask w)) ≤ 18) (u : Text) where
+  held-lines : (k : Kind) → KindShort k → length (linesText 0 (kindLines (Src.bits (chunkName nr) shift (mask w)) k) u) ≤ 297 + length u
+  held-lines (Kind.number x) h = simp length-append (omega arith)
+  held-lines (Kind.condition x) h = simp length-append (omega arith)
+  held-lines (Kind.openEnum x type) h = simp length-append (omega arith)
+  held-lines (Kind.closedEnum x type) h = simp length-append (omega arith)
+  held-lines (Kind.fixedScalar n) h = simp length-append (omega (arith, hexadecimal-any n))
+  held-lines (Kind.fixedEnum type tag) h = simp length-append (omega arith)
+  held-lines Kind.reserved h = omega arith
 
--- the bits of a chunk of one field
-read-lines : (o : EndiannessValue) (w : ℕ) (k : Kind) (u : Text) → KindShort k
-    → length (linesText 0 (kindLines (readOf span o w) k) u) ≤ 297 + length u
-read-lines o w (Kind.number x) u h = simp (length-append, order-length) (omega (arith, scalar-type w, decimal-any (w / 8)))
-read-lines o w (Kind.condition x) u h = simp (length-append, order-length) (omega (arith, scalar-type w, decimal-any (w / 8)))
-read-lines o w (Kind.openEnum x type) u h = simp (length-append, order-length) (omega (arith, scalar-type w, decimal-any (w / 8)))
-read-lines o w (Kind.closedEnum x type) u h = simp (length-append, order-length) (omega (arith, scalar-type w, decimal-any (w / 8)))
-read-lines o w (Kind.fixedScalar n) u h =
-    simp (length-append, order-length) (omega (arith, scalar-type w, decimal-any (w / 8), hexadecimal-any n))
-read-lines o w (Kind.fixedEnum type tag) u h = simp (length-append, order-length) (omega (arith, scalar-type w, decimal-any (w / 8)))
-read-lines o w Kind.reserved u h = omega arith
+-- the bits of a chunk of one field: the numbers of the type and of the bytes
+module _ (o : EndiannessValue) (w : ℕ) (a : length (decimal (getCxxScalarType w)) ≤ 2) (b : length (decimal (w / 8)) ≤ 64) (u : Text) where
+  read-lines : (k : Kind) → KindShort k → length (linesText 0 (kindLines (readOf span o w) k) u) ≤ 297 + length u
+  read-lines (Kind.number x) h = simp (length-append, order-length) (omega arith)
+  read-lines (Kind.condition x) h = simp (length-append, order-length) (omega arith)
+  read-lines (Kind.openEnum x type) h = simp (length-append, order-length) (omega arith)
+  read-lines (Kind.closedEnum x type) h = simp (length-append, order-length) (omega arith)
+  read-lines (Kind.fixedScalar n) h = simp (length-append, order-length) (omega (arith, hexadecimal-any n))
+  read-lines (Kind.fixedEnum type tag) h = simp (length-append, order-length) (omega arith)
+  read-lines Kind.reserved h = omega arith
 
 -- ---- one chunk
 
 lines-append : (d : ℕ) (a b : List Line) (u : Text) → linesText d (a ++ b) u ≡ linesText d a (linesText d b u)
 lines-append d [] b u = refl
-lines-append d (x ∷ a) b u = ap (Rattle.definitions.specs.Lines.lineText d x) (lines-append d a b u)
+lines-append d (x ∷ a) b u = ap (lineText d x) (lines-append d a b u)
 
 bits-lines : (nr : ℕ) (bs : List Bit) (u : Text) → AllShort 64 bs → length (linesText 0 (bitsLines (chunkName nr) bs) u) ≤ 297 * length bs + length u
 bits-lines nr [] u h = omega arith
@@ -78,7 +70,8 @@ bits-lines nr (b ∷ bs) u h =
     rw lines-append
     (omega (
       arith,
-      held-lines nr (b .shift) (b .width) (b .kind) (linesText 0 (bitsLines (chunkName nr) bs) u) (h .0 .kind) (h .0 .place),
+      held-lines nr (b .shift) (b .width) (decimal-any nr) (decimal-width (b .shift) (omega (arith, h .0 .place)))
+          (mask-short (b .width) (omega (arith, h .0 .place))) (linesText 0 (bitsLines (chunkName nr) bs) u) (b .kind) (h .0 .kind),
       bits-lines nr bs u (h .1),
     ))
 
@@ -97,7 +90,7 @@ chunk-lines o nr bs u h w some = by (shouldSkipValue bs)
   where
     read : (ds : List Bit) → AllShort 64 ds → (n : ℕ) → n ≤ 64 → length (linesText 0 (readLines o nr n ds) u) ≤ 110 + 297 * length ds + length u
     read [] k n w = omega arith
-    read (b ∷ []) k n w = omega (arith, read-lines o n (b .kind) u (k .0 .kind))
+    read (b ∷ []) k n w = omega (arith, read-lines o n (scalar-type n) (decimal-any (n / 8)) u (b .kind) (k .0 .kind))
     read (b ∷ d ∷ ds) k n w =
         simp (length-append, order-length)
         (omega (arith, bits-lines nr (b ∷ d ∷ ds) u k, decimal-any nr, scalar-type n, decimal-bytes n w))
@@ -127,7 +120,7 @@ chunks-lines o (c ∷ cs) u h =
 
 body-text : (ls : List Line) (l : List Stmt) → render (body ls l) ≡ linesText 0 ls (render l)
 body-text [] l = refl
-body-text (x ∷ ls) l = ap (Rattle.definitions.specs.Lines.lineText 0 x) (body-text ls l)
+body-text (x ∷ ls) l = ap (lineText 0 x) (body-text ls l)
 
 -- a run of at least one chunk
 pub checked-short : (o : EndiannessValue) (n : ℕ) (cs : List Chunk) → ChunksShort cs → 0 < bitsIn cs

@@ -1,18 +1,18 @@
--- The lines of a block that is no checked run: at most so many bytes, before any lines.
+-- The lines of a block that is no checked run: a payload, an optional field, a nested parser, an array with its modifier and its padding.
 -- Assumes nothing.
-use mathlib.Core.List.{List, [], _∷_, _++_}
-use Prim.Native.Nat.{ℕ, zero, suc, _+_, _*_, _/_, _≤_, _<_}
+use mathlib.Core.List.{List, [], _∷_}
+use Prim.Native.Nat.{ℕ, _+_, _/_, _≤_}
 use native.Mathlib.Omega.{arith}
 use lib.ListN.{length, length-append}
-use Rattle.definitions.specs.Bytes.{Text, text, decimal}
+use Rattle.definitions.specs.Bytes.{Text, text}
 use Rattle.definitions.specs.Lines.{Expr, Test, Line, Stmt, render}
 use Rattle.definitions.specs.Blocks.{span, roomFor, named, startName, gone, missing, Array, byMode, arrayLines, sizeName, modifierLines, fieldLines, Block, blockLines}
 use Rattle.definitions.specs.declared.EndiannessValue.{EndiannessValue}
 use Rattle.definitions.specs.declared.Modifier.{Modifier}
 use Rattle.definitions.specs.declared.Arrays.{Arrays}
-use Rattle.lengths.specs.Shares.{shape, modifierLine, padding}
+use Rattle.lengths.specs.Shares.{plainField, modifierLine, shape, padding}
 use Rattle.lengths.proofs.Digits.{decimal-any, decimal-count}
-use Rattle.lengths.proofs.Shapes.{order-length, scalar-type, Counted, Short, lite, full}
+use Rattle.lengths.proofs.Shapes.{order-length, scalar-type, ElemShort, Counted, lite, full}
 
 -- at most n bytes before any lines
 pub record Within (n : ℕ) (b : Block) : Type 0 where
@@ -20,43 +20,43 @@ pub record Within (n : ℕ) (b : Block) : Type 0 where
 
 -- ---- payloads, optional fields, nested parsers
 
-pub sized-payload : (x s : Text) (m : Modifier) → length x ≤ 41 → length s ≤ 46 → Within 1024 (Block.sizedPayload x s m)
+pub sized-payload : (x s : Text) (m : Modifier) → length x ≤ 41 → length s ≤ 46 → Within plainField (Block.sizedPayload x s m)
 sized-payload x s Modifier.None h k = record { before = λ l. simp length-append (omega arith) }
 sized-payload x s (Modifier.Plus n) h k = record { before = λ l. simp length-append (omega (arith, decimal-any n)) }
 sized-payload x s (Modifier.Minus n) h k = record { before = λ l. simp length-append (omega (arith, decimal-any n)) }
 
 module _ (x : Text) (h : length x ≤ 41) where
-  pub payload-up-to : (n : ℕ) → Within 1024 (Block.payloadUpTo x n)
+  pub payload-up-to : (n : ℕ) → Within plainField (Block.payloadUpTo x n)
   payload-up-to n = record { before = λ l. simp length-append (omega (arith, decimal-any n)) }
 
-  pub payload-to-end : Within 1024 (Block.payloadToEnd x)
+  pub payload-to-end : Within plainField (Block.payloadToEnd x)
   payload-to-end = record { before = λ l. simp length-append (omega arith) }
 
   module _ (type : Text) (k : length type ≤ 32) where
-    pub nested-short : Within 1024 (Block.nested type x)
+    pub nested-short : Within plainField (Block.nested type x)
     nested-short = record { before = λ l. simp length-append (omega arith) }
 
-    pub nested-up-to : (id : Text) (n : ℕ) → length id ≤ 32 → Within 1024 (Block.nestedUpTo id n type x)
+    pub nested-up-to : (id : Text) (n : ℕ) → length id ≤ 32 → Within plainField (Block.nestedUpTo id n type x)
     nested-up-to id n i = record { before = λ l. simp length-append (omega (arith, decimal-any n)) }
 
   module _ (c : Text) (v : ℕ) (j : length c ≤ 32) (o : EndiannessValue) (w : ℕ) where
-    pub optional-scalar : Within 1024 (Block.optionalScalar c v o w x)
+    pub optional-scalar : Within plainField (Block.optionalScalar c v o w x)
     optional-scalar = record {
       before = λ l. simp (length-append, order-length) (omega (arith, decimal-any v, decimal-any (w / 8), scalar-type w));
     }
 
     module _ (type : Text) (k : length type ≤ 32) where
-      pub optional-open : Within 1024 (Block.optionalOpen c v o w x type)
+      pub optional-open : Within plainField (Block.optionalOpen c v o w x type)
       optional-open = record {
         before = λ l. simp (length-append, order-length) (omega (arith, decimal-any v, decimal-any (w / 8), scalar-type w));
       }
 
-      pub optional-closed : Within 1024 (Block.optionalClosed c v o w x type)
+      pub optional-closed : Within plainField (Block.optionalClosed c v o w x type)
       optional-closed = record {
         before = λ l. simp (length-append, order-length) (omega (arith, decimal-any v, decimal-any (w / 8), scalar-type w));
       }
 
-  pub optional-nested : (c : Text) (v : ℕ) (type : Text) → length c ≤ 32 → length type ≤ 32 → Within 1024 (Block.optionalNested c v x type)
+  pub optional-nested : (c : Text) (v : ℕ) (type : Text) → length c ≤ 32 → length type ≤ 32 → Within plainField (Block.optionalNested c v x type)
   optional-nested c v type j k = record { before = λ l. simp length-append (omega (arith, decimal-any v)) }
 
 -- ---- arrays
@@ -64,7 +64,7 @@ module _ (x : Text) (h : length x ≤ 41) where
 pub record ArrayShort (a : Array) : Type 0 where
   pub id : length (a .id) ≤ 32
   pub type : length (a .type) ≤ 32
-  pub elem : Short (a .elem)
+  pub elem : ElemShort (a .elem)
   pub count : Counted (a .arraySize)
 
 abbrev pub Modified : Modifier → Type 0

@@ -1,0 +1,195 @@
+-- The parser's steps: what it has emitted, holds pending and has in its open chunk is within the shares of the fields so far. No refusal is 15.
+-- Assumes nothing.
+use mathlib.Core.Bool.{Bool, true, false}
+use mathlib.Core.List.{List, [], _∷_, _++_}
+use mathlib.Core.Path.{_≡_, refl, sym, subst}
+use Prim.Native.Nat.{ℕ, _+_, _*_, _%_, _≤_, _<_}
+use native.Mathlib.Omega.{arith}
+use lib.Dec.{ltb, eqb}
+use lib.ListN.{length, length-append}
+use borrow.Author.Tests.{ltb-false}
+use Rattle.definitions.specs.Sizes.{Annotated}
+use Rattle.definitions.specs.Refusals.{number}
+use Rattle.definitions.specs.Lines.{render}
+use Rattle.definitions.specs.Blocks.{Bit, Chunk, widths, Block, program}
+use Rattle.definitions.specs.FieldParser.{Setting, FieldParser, Step, go, stop, andThen, flushed, checkCode, kindOf, staticWidth, bitOf, openChunk, closeChunk, parseBitField, Emit, appends, silent, refuses, emitted, Outcome, refused, accepted}
+use Rattle.definitions.specs.declared.Refusal.{Refusal}
+use Rattle.lengths.specs.Shares.{bitField}
+use Rattle.lengths.proofs.Others.{Within}
+use Rattle.lengths.proofs.Runs.{KindShort, BitShort, AllShort, ChunkShort, ChunksShort, bitsIn, checked-short}
+
+-- ---- blocks
+
+-- blocks within n bytes
+abbrev pub Fit : ℕ → List Block → Type 0
+Fit n [] = Unit {0}
+Fit n (b ∷ bs) = (k : ℕ) × (m : ℕ) × Within k b × Fit m bs × (k + m ≤ n)
+
+fit-snoc : (n k : ℕ) (bs : List Block) (b : Block) → Fit n bs → Within k b → Fit (n + k) (bs ++ (b ∷ []))
+fit-snoc n k [] b f w = (k, 0, w, tt, omega arith)
+fit-snoc n k (d ∷ bs) b (j, m, v, f, h) w = (j, m + k, v, fit-snoc m k bs b f w, omega (arith, h))
+
+pub fit-length : (n : ℕ) (bs : List Block) → Fit n bs → length (render (program bs)) ≤ n
+fit-length n [] f = omega arith
+fit-length n (b ∷ bs) (k, m, w, f, h) = omega (arith, w .before (program bs), fit-length m bs f, h)
+
+pub wider : {k n : ℕ} {b : Block} → Within k b → k ≤ n → Within n b
+wider w h = record { before = λ l. omega (arith, w .before l, h) }
+
+-- ---- the parser's state
+
+-- no refusal is 15
+abbrev pub Below : Refusal → Type 0
+Below why = number why < 15
+
+pub record Holds (n : ℕ) (p : FieldParser) : Type 0 where
+  pub used : ℕ
+  pub code : Fit used (p .code)
+  pub room : used + bitField * (bitsIn (p .uncheckedCode) + length (p .chunk)) ≤ n
+  pub pending : ChunksShort (p .uncheckedCode)
+  pub opened : AllShort (p .shift) (p .chunk)
+  pub width : widths (p .chunk) ≤ p .shift
+
+abbrev pub StepFits : ℕ → Step → Type 0
+StepFits n (go p) = Holds n p
+StepFits n (stop why) = Below why
+
+abbrev pub OutcomeFits : ℕ → Outcome → Type 0
+OutcomeFits n (refused why) = Below why
+OutcomeFits n (accepted bs) = length (render (program bs)) ≤ n
+
+abbrev pub EmitFits : ℕ → Emit → Type 0
+EmitFits n (appends b) = Within n b
+EmitFits n silent = Unit {0}
+EmitFits n (refuses why) = Below why
+
+pub then-fits : (m n : ℕ) (s : Step) (f : FieldParser → Step) → StepFits m s → ((q : FieldParser) → Holds m q → StepFits n (f q)) → StepFits n (andThen s f)
+then-fits m n (go p) f h k = k p h
+then-fits m n (stop why) f h k = h
+
+pub more-room : {m n : ℕ} {p : FieldParser} → Holds m p → m ≤ n → Holds n p
+more-room g h = record {
+  used = g .used;
+  code = g .code;
+  room = omega (arith, g .room, h);
+  pending = g .pending;
+  opened = g .opened;
+  width = g .width;
+}
+
+pub step-wider : {m n : ℕ} (s : Step) → StepFits m s → m ≤ n → StepFits n s
+step-wider (go p) g h = more-room g h
+step-wider (stop why) g h = g
+
+pub emitted-fits : (m n : ℕ) (p : FieldParser) (e : Emit) → Holds m p → EmitFits n e → StepFits (m + n) (emitted p e)
+emitted-fits m n p (appends b) g w = record {
+  used = g .used + n;
+  code = fit-snoc (g .used) n (p .code) b (g .code) w;
+  room = omega (arith, g .room);
+  pending = g .pending;
+  opened = g .opened;
+  width = g .width;
+}
+emitted-fits m n p silent g w = more-room g (omega arith)
+emitted-fits m n p (refuses why) g w = w
+
+-- a run that is flushed pays for its block
+some-bits : (d : Chunk) (ds : List Chunk) → ChunksShort (d ∷ ds) → 0 < bitsIn (d ∷ ds)
+some-bits d ds h = omega (arith, h .0 .some)
+
+pub check-fits : (c : Setting) (n : ℕ) (p : FieldParser) → Holds n p → StepFits n (checkCode c p)
+unfolding checkCode
+check-fits c n p g = by (p .uncheckedCode) refl (p .chunk)
+  where
+    by : (cs : List Chunk) → p .uncheckedCode ≡ cs → (bs : List Bit) → StepFits n (flushed c p cs bs)
+    by [] e bs = g
+    by (d ∷ ds) e [] =
+        let some : 0 < bitsIn (p .uncheckedCode) = subst (λ (cs : List Chunk). 0 < bitsIn cs) (sym e) (some-bits d ds (subst ChunksShort e (g .pending))) in
+        record {
+          used = g .used + bitField * bitsIn (p .uncheckedCode);
+          code =
+              fit-snoc (g .used) (bitField * bitsIn (p .uncheckedCode)) (p .code) _ (g .code)
+              (checked-short (c .endianness) (p .offset) (p .uncheckedCode) (g .pending) some);
+          room = omega (arith, g .room);
+          pending = tt;
+          opened = g .opened;
+          width = g .width;
+        }
+    by (d ∷ ds) e (b ∷ bs) = omega arith
+
+-- ---- bit fields
+
+short-snoc : (m n : ℕ) (bs : List Bit) (b : Bit) → m ≤ n → AllShort m bs → BitShort n b → AllShort n (bs ++ (b ∷ []))
+short-snoc m n [] b e h k = (k, tt)
+short-snoc m n (d ∷ bs) b e h k =
+    (record { kind = h .0 .kind; place = omega (arith, e, h .0 .place) }, short-snoc m n bs b e (h .1) k)
+
+short-more : (m n : ℕ) (bs : List Bit) → m ≤ n → AllShort m bs → AllShort n bs
+short-more m n [] e h = tt
+short-more m n (b ∷ bs) e h = (record { kind = h .0 .kind; place = omega (arith, e, h .0 .place) }, short-more m n bs e (h .1))
+
+widths-snoc : (bs : List Bit) (b : Bit) → widths (bs ++ (b ∷ [])) ≡ widths bs + b .width
+widths-snoc [] b = omega arith
+widths-snoc (d ∷ bs) b = omega (arith, widths-snoc bs b)
+
+chunks-snoc : (cs : List Chunk) (c : Chunk) → ChunksShort cs → ChunkShort c → ChunksShort (cs ++ (c ∷ []))
+chunks-snoc [] c h k = (k, tt)
+chunks-snoc (d ∷ cs) c h k = (h .0, chunks-snoc cs c (h .1) k)
+
+bits-snoc : (cs : List Chunk) (c : Chunk) → bitsIn (cs ++ (c ∷ [])) ≡ bitsIn cs + length (c .fields)
+bits-snoc [] c = omega arith
+bits-snoc (d ∷ cs) c = omega (arith, bits-snoc cs c)
+
+pub bit-fits : (c : Setting) (n : ℕ) (p : FieldParser) (a : Annotated) → KindShort (kindOf c (a .field .desc)) → Holds n p
+    → StepFits (n + bitField) (parseBitField c p a)
+unfolding parseBitField
+bit-fits c n p a k g = boundary (eqb (now % 8) 0)
+  where
+    now : ℕ
+    now = p .shift + staticWidth (a .fieldSize)
+
+    bit : Bit
+    bit = bitOf c (p .shift) a
+
+    grown : List Bit
+    grown = p .chunk ++ (bit ∷ [])
+
+    short : AllShort now grown
+    short = short-snoc (p .shift) now (p .chunk) bit (omega arith) (g .opened) (record { kind = k; place = omega arith })
+
+    wide : widths grown ≤ now
+    wide = omega (arith, widths-snoc (p .chunk) bit, g .width)
+
+    longer : length grown ≡ length (p .chunk) + 1
+    longer = simp length-append
+
+    close : (b : Bool) → ltb 64 now ≡ b → StepFits (n + bitField) (elim b [ true ↦ stop Refusal.ScalarTooWide | false ↦ go (closeChunk p now grown) ])
+    close true e = omega arith
+    close false e = record {
+      used = g .used;
+      code = g .code;
+      room = omega (arith, g .room, longer, bits-snoc (p .uncheckedCode) (record { nr = p .chunkNr; fields = grown }));
+      pending =
+          chunks-snoc (p .uncheckedCode) (record { nr = p .chunkNr; fields = grown }) (g .pending)
+          (record {
+            bits = short-more now 64 grown (ltb-false 64 now e) short;
+            width = omega (arith, wide, ltb-false 64 now e);
+            some = omega (arith, longer);
+          });
+      opened = tt;
+      width = omega arith;
+    }
+
+    boundary : (b : Bool) → StepFits (n + bitField) (elim b [
+      | true ↦ elim (ltb 64 now) [ true ↦ stop Refusal.ScalarTooWide | false ↦ go (closeChunk p now grown) ]
+      | false ↦ go (openChunk p now grown)
+    ])
+    boundary true = close (ltb 64 now) refl
+    boundary false = record {
+      used = g .used;
+      code = g .code;
+      room = omega (arith, g .room, longer);
+      pending = g .pending;
+      opened = short;
+      width = wide;
+    }
