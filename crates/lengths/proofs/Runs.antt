@@ -10,7 +10,7 @@ use Rattle.definitions.specs.Bytes.{Text, pick, decimal, hexadecimal}
 use Rattle.definitions.specs.Lines.{Src, Line, Stmt, lineText, linesText, render}
 use Rattle.definitions.specs.Blocks.{span, body, Kind, Bit, Chunk, widths, getCxxScalarType, readOf, mask, kindLines, shouldSkipValue, chunkName, bitsLines, readLines, chunkLines, chunksLines, Block}
 use Rattle.definitions.specs.declared.EndiannessValue.{EndiannessValue}
-use Rattle.lengths.specs.Shares.{bitField}
+use Rattle.lengths.specs.Shares.{ownLines, chunkRead, bitField}
 use Rattle.lengths.proofs.Digits.{decimal-any, decimal-width, decimal-bytes, hexadecimal-any, mask-short}
 use Rattle.lengths.proofs.Shapes.{order-length, scalar-type}
 use Rattle.lengths.proofs.Others.{Within}
@@ -38,7 +38,7 @@ AllShort end (b ∷ bs) = BitShort end b × AllShort end bs
 
 -- the bits of a chunk that is held in a variable: the numbers of the chunk, of the shift and of the mask
 module _ (nr shift w : ℕ) (a : length (decimal nr) ≤ 64) (b : length (decimal shift) ≤ 2) (c : length (hexadecimal (mask w)) ≤ 18) (u : Text) where
-  held-lines : (k : Kind) → KindShort k → length (linesText 0 (kindLines (Src.bits (chunkName nr) shift (mask w)) k) u) ≤ 297 + length u
+  held-lines : (k : Kind) → KindShort k → length (linesText 0 (kindLines (Src.bits (chunkName nr) shift (mask w)) k) u) ≤ ownLines + length u
   held-lines (Kind.number x) h = simp length-append (omega arith)
   held-lines (Kind.condition x) h = simp length-append (omega arith)
   held-lines (Kind.openEnum x type) h = simp length-append (omega arith)
@@ -49,7 +49,7 @@ module _ (nr shift w : ℕ) (a : length (decimal nr) ≤ 64) (b : length (decima
 
 -- the bits of a chunk of one field: the numbers of the type and of the bytes
 module _ (o : EndiannessValue) (w : ℕ) (a : length (decimal (getCxxScalarType w)) ≤ 2) (b : length (decimal (w / 8)) ≤ 64) (u : Text) where
-  read-lines : (k : Kind) → KindShort k → length (linesText 0 (kindLines (readOf span o w) k) u) ≤ 297 + length u
+  read-lines : (k : Kind) → KindShort k → length (linesText 0 (kindLines (readOf span o w) k) u) ≤ ownLines + length u
   read-lines (Kind.number x) h = simp (length-append, order-length) (omega arith)
   read-lines (Kind.condition x) h = simp (length-append, order-length) (omega arith)
   read-lines (Kind.openEnum x type) h = simp (length-append, order-length) (omega arith)
@@ -64,7 +64,7 @@ lines-append : (d : ℕ) (a b : List Line) (u : Text) → linesText d (a ++ b) u
 lines-append d [] b u = refl
 lines-append d (x ∷ a) b u = ap (lineText d x) (lines-append d a b u)
 
-bits-lines : (nr : ℕ) (bs : List Bit) (u : Text) → AllShort 64 bs → length (linesText 0 (bitsLines (chunkName nr) bs) u) ≤ 297 * length bs + length u
+bits-lines : (nr : ℕ) (bs : List Bit) (u : Text) → AllShort 64 bs → length (linesText 0 (bitsLines (chunkName nr) bs) u) ≤ ownLines * length bs + length u
 bits-lines nr [] u h = omega arith
 bits-lines nr (b ∷ bs) u h =
     rw lines-append
@@ -85,10 +85,10 @@ ChunksShort [] = Unit {0}
 ChunksShort (c ∷ cs) = ChunkShort c × ChunksShort cs
 
 chunk-lines : (o : EndiannessValue) (nr : ℕ) (bs : List Bit) (u : Text) → AllShort 64 bs → widths bs ≤ 64 → 0 < length bs
-    → length (linesText 0 (chunkLines o nr bs) u) ≤ 110 + 297 * length bs + length u
+    → length (linesText 0 (chunkLines o nr bs) u) ≤ chunkRead + ownLines * length bs + length u
 chunk-lines o nr bs u h w some = by (shouldSkipValue bs)
   where
-    read : (ds : List Bit) → AllShort 64 ds → (n : ℕ) → n ≤ 64 → length (linesText 0 (readLines o nr n ds) u) ≤ 110 + 297 * length ds + length u
+    read : (ds : List Bit) → AllShort 64 ds → (n : ℕ) → n ≤ 64 → length (linesText 0 (readLines o nr n ds) u) ≤ chunkRead + ownLines * length ds + length u
     read [] k n w = omega arith
     read (b ∷ []) k n w = omega (arith, read-lines o n (scalar-type n) (decimal-any (n / 8)) u (b .kind) (k .0 .kind))
     read (b ∷ d ∷ ds) k n w =
@@ -96,7 +96,7 @@ chunk-lines o nr bs u h w some = by (shouldSkipValue bs)
         (omega (arith, bits-lines nr (b ∷ d ∷ ds) u k, decimal-any nr, scalar-type n, decimal-bytes n w))
 
     by : (b : Bool)
-        → length (linesText 0 (pick b (Line.reserved span (widths bs / 8) ∷ []) (readLines o nr (widths bs) bs)) u) ≤ 110 + 297 * length bs + length u
+        → length (linesText 0 (pick b (Line.reserved span (widths bs / 8) ∷ []) (readLines o nr (widths bs) bs)) u) ≤ chunkRead + ownLines * length bs + length u
     by true = simp length-append (omega (arith, decimal-any (widths bs / 8)))
     by false = read bs h (widths bs) w
 
@@ -107,7 +107,7 @@ abbrev pub bitsIn : List Chunk → ℕ
 bitsIn [] = 0
 bitsIn (c ∷ cs) = length (c .fields) + bitsIn cs
 
-chunks-lines : (o : EndiannessValue) (cs : List Chunk) (u : Text) → ChunksShort cs → length (linesText 0 (chunksLines o cs) u) ≤ 407 * bitsIn cs + length u
+chunks-lines : (o : EndiannessValue) (cs : List Chunk) (u : Text) → ChunksShort cs → length (linesText 0 (chunksLines o cs) u) ≤ (ownLines + chunkRead) * bitsIn cs + length u
 chunks-lines o [] u h = omega arith
 chunks-lines o (c ∷ cs) u h =
     rw lines-append

@@ -1,5 +1,5 @@
--- How many bytes of lines each field of the target gives at most, its share, and how many all of them give. A padding and an element size field give
--- less than their share of 65,536 bytes by 64 fields, and pay for the longest arrays.
+-- How many bytes of lines each field of the target gives at most, its share, and how many all of them give: 1,024 for each of 64 fields. An array of
+-- Dynamic element size gives 8 more, but then there is an element size field, which gives half as many.
 -- Assumes nothing.
 use mathlib.Core.Bool.{Bool, true, false}
 use mathlib.Core.List.{List, [], _∷_}
@@ -23,8 +23,17 @@ abbrev pub plainField : ℕ
 plainField = 1024
 
 -- a bit field: its own lines, the read of its chunk and the check of its run
+abbrev pub ownLines : ℕ
+ownLines = 297
+
+abbrev pub chunkRead : ℕ
+chunkRead = 110
+
+abbrev pub runCheck : ℕ
+runCheck = 106
+
 abbrev pub bitField : ℕ
-bitField = 517
+bitField = ownLines + chunkRead + runCheck
 
 -- the line of an array's size modifier
 abbrev pub modifierLine : ℕ
