@@ -193,7 +193,7 @@ module _ (c : Setting) (earlier : List Declaration) (rows : Rows earlier (c .sco
   unfolding annotateFields isBit
   fields-fit fs [] r b f = tt
   fields-fit fs (x ∷ xs) r b f =
-      (record { whole = r .0; free = f .0; wide = by (x .cond) }, fields-fit fs xs (r .1) (b .1) (f .1))
+      (record { whole = r .0; free = f .0 .0; wide = by (x .cond) }, fields-fit fs xs (r .1) (b .1) (f .1))
     where
       by : (k : Cond)
           → elim k as (λ _. Bool) [ Cond.None ↦ isBitfield (c .source) (c .scope) (x .desc) | Cond.Some id value ↦ false ] ≡ true
