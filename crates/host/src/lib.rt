@@ -34,9 +34,9 @@ fn read_once(fd: i32, buf: &mut [u8]) -> Piece
     Piece::Bytes(n)
 }
 
-// Reads behind the first `at` bytes of a buffer until it is full or the input ends.
+// Reads behind the first `at` bytes of a buffer, which stay, until it is full or the input ends.
 pub fn fill(fd: i32, buf: &mut [u8], at: usize) -> Input
-    ensures { λ r. ⌜ Filled r at (length (now (buf .entry))) ⌝ }
+    ensures { λ r. ⌜ Filled r at (now (buf .entry)) (now (buf .exit)) ⌝ }
 {
     let mut end = at;
     while end < buf.len() {
@@ -61,8 +61,11 @@ fn drop_some(fd: i32) -> bool {
     0 < libc::read(fd, &mut buf)
 }
 
-// Reads the input to its end. A proved loop has to end, so its turns are counted down from a number that no run uses up.
-pub fn drain(fd: i32) {
+// Reads the input to its end. A proved loop has to end, so its turns are counted down from a number that no run uses up. It lends and gives
+// nothing, so its contract has nothing to say but that it returns.
+pub fn drain(fd: i32)
+    ensures { λ r. ⌜ r ≡ tt ⌝ }
+{
     let mut turns = u64::MAX;
     while turns > 0 && drop_some(fd) {
         turns -= 1;

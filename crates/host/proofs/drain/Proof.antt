@@ -1,5 +1,6 @@
 -- `host::drain` is safe and ends: the measure is the number of turns that are left, and nothing has to hold from turn to turn.
 -- Assumes nothing.
+use mathlib.Core.Path.{refl}
 use native.Mathlib.Omega.{arith}
 use Rattle.host.proofs.drain.Statement.{statement}
 use Rattle.host.proofs.drain.Tie as tie
@@ -26,10 +27,10 @@ loop-again : tie.Need-loop-again Inv-loop μ-loop
 loop-again c = tt
 
 returns : tie.Need-returns Inv-loop μ-loop
-returns c = tt
+returns c = refl
 
 returns-2 : tie.Need-returns-2 Inv-loop μ-loop
-returns-2 c = tt
+returns-2 c = refl
 
 pub drain-spec : {M : Type 1} → statement M
 drain-spec = tie.close (tie.spec Inv-loop μ-loop loop-holds drop-some-requires sub-turns loop-less loop-again returns returns-2)

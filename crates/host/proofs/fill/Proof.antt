@@ -1,16 +1,16 @@
 -- `host::fill` meets its contract, by the laws of Pieces.
 -- Assumes nothing.
 use native.Mathlib.Omega.{arith}
-use Rattle.host.proofs.Pieces.{bytes-came}
+use Rattle.host.proofs.Pieces.{bytes-came, stays}
 use Prim.Native.Nat.{_-_, _≤_}
-use lib.ListN.{length}
+use lib.ListN.{length, take}
 use mathlib.Core.Path.{_≡_}
 use borrow.Author.Needs.{needs}
 use Rattle.host.proofs.fill.Statement.{statement}
 use Rattle.host.proofs.fill.Tie as tie
 
 abbrev Inv-loop : tie.InvT-loop
-Inv-loop fd buf₀ at end₀ buf end = (length buf ≡ length buf₀) × (at ≤ end)
+Inv-loop fd buf₀ at end₀ buf end = (length buf ≡ length buf₀) × ((at ≤ end) × (take at buf ≡ take at buf₀))
 
 abbrev μ-loop : tie.MeasureT-loop
 μ-loop fd buf₀ at end₀ buf end = length buf - end
@@ -37,7 +37,7 @@ add-end : tie.Need-add-end Inv-loop μ-loop
 add-end c = omega (arith, bytes-came _ _ (c .before .before .before .before .before .before .before .before .loop .end) (c .before .before .before .before .before .before .before .before .loop .buf) (c .before .before .before .before .before .read-once .ensures) (c .before .n .given .1))
 
 loop-again : tie.Need-loop-again Inv-loop μ-loop
-loop-again c = search needs
+loop-again c = search (stays, needs)
 
 loop-less : tie.Need-loop-less Inv-loop μ-loop
 loop-less c = omega (arith, bytes-came _ _ (c .before .before .before .before .before .before .before .before .loop .end) (c .before .before .before .before .before .before .before .before .loop .buf) (c .before .before .before .before .before .read-once .ensures) (c .before .n .given .1), loop-again c)
@@ -49,7 +49,7 @@ same-length : tie.Need-same-length Inv-loop μ-loop
 same-length c = search needs
 
 returns : tie.Need-returns Inv-loop μ-loop
-returns c = search needs
+returns c = search (stays, needs)
 
 enum-told-2 : tie.Need-enum-told-2 Inv-loop μ-loop
 enum-told-2 c = search needs
@@ -58,7 +58,7 @@ same-length-2 : tie.Need-same-length-2 Inv-loop μ-loop
 same-length-2 c = search needs
 
 returns-2 : tie.Need-returns-2 Inv-loop μ-loop
-returns-2 c = search needs
+returns-2 c = search (stays, needs)
 
 same-length-3 : tie.Need-same-length-3 Inv-loop μ-loop
 same-length-3 c = search needs
