@@ -1,22 +1,19 @@
 -- A bit field, by its two ways: the chunk with it stays open, or it closes.
 -- Assumes nothing.
 use mathlib.Core.Bool.{Bool, true, false}
-use mathlib.Core.List.{List, [], _++_}
+use mathlib.Core.List.{List, []}
 use mathlib.Core.Path.{_≡_, refl, sym, ap, _∙_, subst}
-use Prim.Native.Nat.{ℕ, _+_, _/_, _%_, _≤_, _<_, _^_}
+use Prim.Native.Nat.{ℕ, _+_, _%_, _<_, _^_}
 use native.Mathlib.Omega.{arith}
 use lib.Dec.{ltb}
 use lib.ListN.{length}
 use borrow.Author.Tests.{eq-eqb, ne-eqb}
 use Rattle.definitions.specs.Bytes.{Text}
 use Rattle.definitions.specs.Blocks.{Bit, Kind, widths}
-use Rattle.definitions.specs.FieldParser.{nextNr}
 use Rattle.definitions.specs.declared.Arrays.{Arrays}
 use Rattle.definitions.specs.declared.EndiannessValue.{EndiannessValue}
-use Rattle.definitions.specs.declared.Refusal.{Refusal}
 use Rattle.definitions.specs.declared.Verdict.{Verdict}
 use Rattle.text.proofs.Puts.{like, still}
-use Rattle.stream.specs.Stream.{checkText, chunkText}
 use Rattle.stream.specs.Stream as flow
 use Rattle.bit_fields.specs.declared.KindAt.{KindAt}
 use Rattle.bit_fields.specs.Kinds.{kindIn}
@@ -26,6 +23,7 @@ use Rattle.chunks.specs.declared.State.{State}
 use Rattle.chunks.specs.declared.Step.{Step}
 use Rattle.chunks.specs.Steps.{view, Long, grownState, grownKinds, Closing, ChunkClosed, Advance, grownBits, bitAdvance, closeAdvance, Ready, BitParsed}
 use Rattle.chunks.proofs.Grown.{grown-bits, grown-long}
+use Rattle.chunks.proofs.Closes.{after-close, close-long}
 
 -- ---- the advance, by its tests
 
@@ -118,6 +116,8 @@ module _ (m : Arrays) (s word : Text) (order : EndiannessValue) (t : State) (kin
       record {
         verdict-is = v ∙ q .verdict-is;
         wrote = like (ap (λ (x : Advance). x .lines) a ∙ q .lines-are) (d .wrote);
-        after = λ p. d .after ∙ ap (λ (x : Advance). x .after) a ∙ q .after-is (sym v ∙ p);
-        long = d .long;
+        after =
+            λ p. ap (λ (x : State). view m s word x held) (d .state-is)
+            ∙ after-close m s word order u held later ∙ ap (λ (x : Advance). x .after) a ∙ q .after-is (sym v ∙ p);
+        long = subst (λ (x : State). Long x held) (sym (d .state-is)) (close-long u held long);
       }

@@ -1,12 +1,12 @@
--- `close`, by its two ways: the chunk is too wide, or its lines are written.
+-- `close`, by its two ways: the chunk is too wide, or its lines are written; and the state behind it as the stream's.
 -- Assumes nothing.
-use mathlib.Core.Bool.{true}
+use mathlib.Core.Bool.{Bool, true, false}
 use mathlib.Core.List.{List, [], _++_}
-use mathlib.Core.Path.{_≡_, refl, sym, ap, _∙_}
+use mathlib.Core.Path.{_≡_, refl, sym, ap, _∙_, subst}
 use Prim.Native.Nat.{ℕ, _+_, _/_, _≤_, _<_, _^_}
-use native.Mathlib.Omega.{arith}
+use lib.Dec.{ltb}
 use lib.ListN.{length}
-use borrow.Author.Tests.{lt-ltb, le-ltb}
+use borrow.Author.Tests.{lt-ltb, le-ltb, ltb-true, ltb-false}
 use Rattle.definitions.specs.Bytes.{Text}
 use Rattle.definitions.specs.FieldParser.{nextNr}
 use Rattle.definitions.specs.declared.Arrays.{Arrays}
@@ -23,10 +23,20 @@ use Rattle.chunk_lines.specs.declared.Held.{Held}
 use Rattle.chunk_lines.specs.Bits.{bitsOf, Closed}
 use Rattle.chunk_lines.proofs.Fields.{bits-widths}
 use Rattle.chunks.specs.declared.State.{State}
-use Rattle.chunks.specs.Steps.{view, nextOf, closeAdvance, Advance, Closing, ChunkClosed}
+use Rattle.chunks.specs.Steps.{view, Long, nextOf, closedState, stateBehind, closeAdvance, Advance, Closing, ChunkClosed}
 use Rattle.chunks.proofs.Numbers.{next-of, too-wide, has-type}
+use Rattle.chunks.proofs.Grown.{closed-long}
 
 -- ---- by its test
+
+module _ (t : State) (kinds : List Held) where
+  wide-state : 64 < t .shift → t ≡ stateBehind t kinds
+  unfolding stateBehind
+  wide-state g = rw (lt-ltb _ _ g, stateBehind)
+
+  closed-state : t .shift ≤ 64 → closedState t kinds ≡ stateBehind t kinds
+  unfolding stateBehind
+  closed-state g = rw (le-ltb _ _ g, stateBehind)
 
 module _ (order : EndiannessValue) (s : flow.State) (later : ℕ) where
   wide-advance : 64 < s .shift → closeAdvance order s later ≡ record { verdict = Verdict.Refuse Refusal.ScalarTooWide; lines = []; after = s }
@@ -53,8 +63,7 @@ module _ (m : Arrays) (s word : Text) (order : EndiannessValue) (t : State) (kin
       record {
         verdict-is = ap (λ (x : Advance). x .verdict) (sym a);
         wrote = like (ap (λ (x : Advance). x .lines) (sym a)) (still out at room);
-        after = ap (λ (x : Advance). x .after) (sym a);
-        long = z .long;
+        state-is = wide-state t kinds (too-wide (t .shift) q f);
       }
 
   -- what `put_chunk` asks
@@ -83,7 +92,6 @@ module _ (m : Arrays) (s word : Text) (order : EndiannessValue) (t : State) (kin
         };
       })
       l₂
-  unfolding bitsOf
   is-closed backing f a b e =
       let w : closeAdvance order (view m s word t kinds) later ≡ record {
         verdict = Verdict.Pass;
@@ -94,9 +102,39 @@ module _ (m : Arrays) (s word : Text) (order : EndiannessValue) (t : State) (kin
       record {
         verdict-is = ap (λ (x : Advance). x .verdict) (sym w);
         wrote = like (ap (λ (x : Advance). x .lines) (sym w)) (chain a b);
-        after =
-            ap (λ (x : ℕ). record { shift = 0; chunk = []; chunkNr = x; pending = true })
-            (e ∙ next-of m s word (t .chunk) kinds (t .chunk .len) (t .nr))
-            ∙ ap (λ (x : Advance). x .after) (sym w);
-        long = record { shifts = z .long .shifts; widths = z .long .widths; kinds = z .long .kinds };
+        state-is =
+            ap (λ (x : ℕ). record {
+              chunk = record { shifts = t .chunk .shifts; widths = t .chunk .widths; len = 0 };
+              shift = 0;
+              nr = x;
+              pending = true;
+            }) e
+            ∙ closed-state t kinds (has-type (t .shift) backing q f .0);
       }
+
+-- ---- the state behind it is the stream's, and its arrays have their lengths
+
+module _ (m : Arrays) (s word : Text) (order : EndiannessValue) (t : State) (kinds : List Held) (later : ℕ) where
+  after-by : (b : Bool) → ltb 64 (t .shift) ≡ b
+      → view m s word (stateBehind t kinds) kinds ≡ closeAdvance order (view m s word t kinds) later .after
+  unfolding bitsOf
+  after-by true e =
+      let g : 64 < t .shift = ltb-true 64 (t .shift) e in
+      ap (λ (x : State). view m s word x kinds) (sym (wide-state t kinds g))
+      ∙ ap (λ (x : Advance). x .after) (sym (wide-advance order (view m s word t kinds) later g))
+  after-by false e =
+      let g : t .shift ≤ 64 = ltb-false 64 (t .shift) e in
+      ap (λ (x : State). view m s word x kinds) (sym (closed-state t kinds g))
+      ∙ ap (λ (x : ℕ). record { shift = 0; chunk = []; chunkNr = x; pending = true }) (next-of m s word (t .chunk) kinds (t .chunk .len) (t .nr))
+      ∙ ap (λ (x : Advance). x .after) (sym (closed-advance order (view m s word t kinds) later g))
+
+  pub after-close : view m s word (stateBehind t kinds) kinds ≡ closeAdvance order (view m s word t kinds) later .after
+  after-close = after-by (ltb 64 (t .shift)) refl
+
+long-by : (t : State) (kinds : List Held) (b : Bool) → ltb 64 (t .shift) ≡ b → Long t kinds → Long (stateBehind t kinds) kinds
+long-by t kinds true e long = subst (λ (x : State). Long x kinds) (wide-state t kinds (ltb-true 64 (t .shift) e)) long
+long-by t kinds false e long =
+    subst (λ (x : State). Long x kinds) (closed-state t kinds (ltb-false 64 (t .shift) e)) (closed-long t kinds long)
+
+pub close-long : (t : State) (kinds : List Held) → Long t kinds → Long (stateBehind t kinds) kinds
+close-long t kinds long = long-by t kinds (ltb 64 (t .shift)) refl long

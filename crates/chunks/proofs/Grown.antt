@@ -5,7 +5,7 @@ use mathlib.Core.Path.{_≡_, refl, ap, _∙_}
 use Prim.Native.Nat.{ℕ, zero, suc, _+_, _≤_, _<_}
 use native.Mathlib.Numerals.{add-one}
 use native.Mathlib.Omega.{arith}
-use lib.ListN.{length-set, getD, set}
+use lib.ListN.{length-set, getD}
 use lib.Seq.{getD-set-same, getD-set-other}
 use Rattle.definitions.specs.Bytes.{Text}
 use Rattle.definitions.specs.Blocks.{Bit}

@@ -68,6 +68,7 @@ grownKinds t kinds kind = set kinds (t .chunk .len) (record { kind = kind })
 unfoldable pub nextOf : List Held → ℕ → ℕ → ℕ
 nextOf kinds n nr = elim (allReserved kinds n) [ true ↦ nr | false ↦ elim (ltb n 2) [ true ↦ nr | false ↦ nr + 1 ] ]
 
+-- the arrays stay as they are, behind a length of 0
 abbrev pub closedState : State → List Held → State
 closedState t kinds =
     record {
@@ -143,11 +144,15 @@ pub record Closing (m : Arrays) (s word : Text) (t : State) (kinds : List Held) 
   pub few : t .nr + 1 < 2 ^ 64
   pub long : Long t kinds
 
-pub record ChunkClosed (m : Arrays) (s word : Text) (order : EndiannessValue) (t : State) (kinds : List Held) (later : ℕ) (out : Text) (at : ℕ) (r : Step) (left : Text) : Type 0 where
+-- the state behind it: 12 leaves it as it was
+unfoldable pub stateBehind : State → List Held → State
+stateBehind t kinds = elim (ltb 64 (t .shift)) [ true ↦ t | false ↦ closedState t kinds ]
+
+pub record ChunkClosed (m : Arrays) (s word : Text) (order : EndiannessValue) (t : State) (kinds : List Held) (later : ℕ) (out : Text)
+    (at : ℕ) (r : Step) (left : Text) : Type 0 where
   pub verdict-is : r .verdict ≡ closeAdvance order (view m s word t kinds) later .verdict
   pub wrote : Put out at (closeAdvance order (view m s word t kinds) later .lines) (r .at) left
-  pub after : view m s word (r .state) kinds ≡ closeAdvance order (view m s word t kinds) later .after
-  pub long : Long (r .state) kinds
+  pub state-is : r .state ≡ stateBehind t kinds
 
 -- ---- a bit field: `grow`, and `close` at an octet boundary
 
