@@ -6,7 +6,8 @@ use mathlib.Core.List.{List}
 use mathlib.Core.Path.{_≡_, refl}
 use Rattle.definitions.specs.Bytes.{text}
 use Rattle.definitions.specs.Sizes.{Annotated, EnumOf, enumIs, noEnum, enumOf}
-use Rattle.definitions.specs.FieldParser.{Setting, Emit, appends, getTrailingSize, sizeBacking, optionalTypedef, parseOptionalField, parseOther}
+use Rattle.definitions.specs.FieldParser.{Setting, Emit, appends, getTrailingSize, sizeBacking, optionalTypedef, parseOptionalField, parseOther, parseUnchecked}
+use Rattle.definitions.specs.declared.Cond.{Cond}
 use Rattle.definitions.specs.declared.FieldDesc.{FieldDesc}
 use Rattle.definitions.specs.declared.Modifier.{Modifier}
 use Rattle.definitions.specs.declared.Part.{Part}
@@ -15,7 +16,7 @@ use Rattle.emits.specs.BlockOf.{blockOf, emitOf}
 use Rattle.emits.specs.declared.EmitAt.{EmitAt}
 use Rattle.trailing.proofs.Agree.{typedefs-agree, payloads-agree}
 use Rattle.array_fields.proofs.Agree.{arrays-agree}
-use Rattle.fields.specs.Values.{optionalType, optionalAt, otherAt}
+use Rattle.fields.specs.Values.{optionalType, optionalAt, otherAt, uncheckedAt}
 
 module _ (c : Setting) where
   -- the definitions' `Emit` that a value stands for
@@ -68,3 +69,26 @@ module _ (c : Setting) where
   others-agree shift a later (FieldDesc.Scalar id width) = refl
   others-agree shift a later (FieldDesc.Flag id) = refl
   others-agree shift a later (FieldDesc.Typedef id type) = typedefs-agree c shift a id type later
+
+  -- ---- a field that is no bit field
+
+  module _ (shift : ℕ) (a : Annotated) (later : List Annotated) where
+    abbrev valueBy : Cond → EmitAt
+    valueBy cond = elim cond [
+      | Cond.None ↦ otherAt (c .source) (c .scope) (c .fields) (c .endianness) shift (a .fieldSize) (a .paddedSize) (getTrailingSize later) (a .field .desc)
+      | Cond.Some id value ↦ optionalAt (c .source) (c .scope) id value (a .field .desc)
+    ]
+
+    abbrev emitBy : Cond → Emit
+    emitBy cond = elim cond [
+      | Cond.None ↦ parseOther c shift a later (a .field .desc)
+      | Cond.Some id value ↦ parseOptionalField c id value (a .field .desc)
+    ]
+
+    by-cond : (cond : Cond) → emit (valueBy cond) ≡ emitBy cond
+    by-cond Cond.None = others-agree shift a later (a .field .desc)
+    by-cond (Cond.Some id value) = optionals-agree id value (a .field .desc)
+
+    pub unchecked-agree : emit (uncheckedAt (c .source) (c .scope) (c .fields) (c .endianness) shift a later) ≡ parseUnchecked c shift a later
+    unfolding uncheckedAt parseUnchecked
+    unchecked-agree = by-cond (a .field .cond)

@@ -1,15 +1,15 @@
--- The answer for a field with and without a condition.
+-- The answer for a field with and without a condition; what it stands for, and that its numbers fit.
 -- Assumes nothing.
 use Prim.Native.Nat.{ℕ, _+_, _*_, _<_}
 use mathlib.Core.Bool.{true, false}
 use mathlib.Core.List.{List}
-use mathlib.Core.Path.{_≡_, sym, ap, subst, _∙_}
+use mathlib.Core.Path.{_≡_, refl, sym, ap, _∙_}
 use native.Mathlib.Omega.{arith}
 use lib.ListN.{getD}
 use Rattle.definitions.specs.Bytes.{Text, text}
-use Rattle.definitions.specs.Sizes.{Row, Annotated, EnumOf, enumIs, noEnum, enumOf, hasPayloadSize, descSize, annotateField}
+use Rattle.definitions.specs.Sizes.{Row, Annotated, EnumOf, enumIs, noEnum, enumOf, hasPayloadSize, descSize}
 use Rattle.definitions.specs.Refusals.{largeSize}
-use Rattle.definitions.specs.FieldParser.{Setting, Emit, getTrailingSize, sizeBacking, parseOther, parseOptionalField, parseUnchecked}
+use Rattle.definitions.specs.FieldParser.{Setting, getTrailingSize, sizeBacking, parseUnchecked}
 use Rattle.definitions.specs.Tables.{fieldHere, rowsFrom}
 use Rattle.definitions.specs.declared.Arrays.{Arrays}
 use Rattle.definitions.specs.declared.Cond.{Cond}
@@ -27,9 +27,9 @@ use Rattle.emits.specs.declared.EmitAt.{EmitAt}
 use Rattle.emits.proofs.Fines.{size-fine}
 use Rattle.trailing.proofs.Fits.{typedef-fits, payload-fits}
 use Rattle.array_fields.proofs.Fits.{array-fits}
-use Rattle.fields.specs.Parsed.{Parsed}
-use Rattle.fields.specs.Values.{optionalType, optionalAt, otherAt}
-use Rattle.fields.proofs.Agree.{optionals-agree, others-agree}
+use Rattle.fields.specs.Parsed.{parsedAt}
+use Rattle.fields.specs.Values.{optionalType, optionalAt, otherAt, uncheckedAt}
+use Rattle.fields.proofs.Agree.{unchecked-agree}
 
 -- ---- what is no array fits
 
@@ -77,8 +77,7 @@ module _ (s : Text) (rows : List Row) (fs : List Field) (order : EndiannessValue
 
 -- ---- field k
 
-module _ (s : Text) (places own parents payloads fields : List ℕ) (i n k shift : ℕ) (order : EndiannessValue) {f : Field}
-    (ef : f ≡ fieldHere s (getD fields (i * 64 + k) 0)) where
+module _ (s : Text) (places own parents payloads fields : List ℕ) (i n k shift : ℕ) (order : EndiannessValue) where
   abbrev rows : List Row
   rows = rowsOf s places own parents payloads fields i n
 
@@ -94,45 +93,47 @@ module _ (s : Text) (places own parents payloads fields : List ℕ) (i n k shift
   abbrev setting : Arrays → Setting
   setting m = settingAt s places own parents payloads fields i n order m
 
-  abbrev emit : Arrays → EmitAt → Emit
-  emit m e = emitOf s (text "payload") order m (λ id. sizeBacking s id fs) e
+  abbrev answer : EmitAt
+  answer = parsedAt s places own parents payloads fields i n k shift order
 
-  abbrev unchecked : Arrays → Cond → Emit
-  unchecked m cond = elim cond [
-    | Cond.None ↦ parseOther (setting m) shift here later (here .field .desc)
-    | Cond.Some id value ↦ parseOptionalField (setting m) id value (here .field .desc)
-  ]
+  abbrev other : FieldDesc → EmitAt
+  other d = otherAt s rows fs order shift (here .fieldSize) (here .paddedSize) (getTrailingSize later) d
 
-  chosen : (m : Arrays) {cond : Cond} → f .cond ≡ cond → unchecked m cond ≡ parseUnchecked (setting m) shift here later
-  unfolding parseUnchecked
-  chosen m e = ap (unchecked m) (sym e ∙ ap (λ (f : Field). f .cond) ef)
+  abbrev valueBy : Field → Cond → EmitAt
+  valueBy f cond = elim cond [ Cond.None ↦ other (f .desc) | Cond.Some id value ↦ optionalAt s rows id value (f .desc) ]
 
-  module _ {r : EmitAt} where
+  -- ---- by the field's condition
+
+  module _ {f : Field} (ef : f ≡ fieldHere s (getD fields (i * 64 + k) 0)) {cond : Cond} (e : f .cond ≡ cond) where
+    chosen : valueBy f cond ≡ answer
+    unfolding uncheckedAt
+    chosen = ap (valueBy f) (sym e) ∙ ap (λ (f : Field). valueBy f (f .cond)) ef
+
+  module _ {f : Field} (ef : f ≡ fieldHere s (getD fields (i * 64 + k) 0)) {r : EmitAt} where
     pub parsed-optional : {id : Part} {value : ℕ} → f .cond ≡ Cond.Some id value
-        → ((own par pay : List ℕ) → r ≡ optionalAt s (rowsFrom s places own par pay 0 i) id value (f .desc))
-        → Parsed s places own parents payloads fields i n k shift order r
-    parsed-optional {id} {value} e h =
-        record {
-          answer = λ m.
-              ap (emit m) (h own parents payloads ∙ ap (λ (f : Field). optionalAt s rows id value (f .desc)) ef)
-              ∙ optionals-agree (setting m) id value (here .field .desc) ∙ chosen m e;
-          fits = subst (λ (r : EmitAt). EmitFits r) (sym (h own parents payloads)) (optional-fits s rows id value (f .desc));
-        }
+        → ((own par pay : List ℕ) → r ≡ optionalAt s (rowsFrom s places own par pay 0 i) id value (f .desc)) → r ≡ answer
+    parsed-optional e h = h own parents payloads ∙ chosen ef e
 
-    pub parsed-other : Fine s places own parents payloads fields i n → k < n → f .cond ≡ Cond.None
-        → r ≡ otherAt s rows fs order shift (here .fieldSize) (here .paddedSize) (getTrailingSize later) (f .desc)
-        → Parsed s places own parents payloads fields i n k shift order r
-    parsed-other fine w e h =
-        record {
-          answer = λ m.
-              ap (emit m)
-              (h ∙ ap (λ (f : Field). otherAt s rows fs order shift (here .fieldSize) (here .paddedSize) (getTrailingSize later) (f .desc)) ef)
-              ∙ others-agree (setting m) shift here later (here .field .desc) ∙ chosen m e;
-          fits = subst (λ (r : EmitAt). EmitFits r) (sym h)
-              (other-fits s rows fs order shift (here .fieldSize) (here .paddedSize) (getTrailingSize later) (f .desc) plain);
-        }
+    pub parsed-other : f .cond ≡ Cond.None → r ≡ other (f .desc) → r ≡ answer
+    parsed-other e h = h ∙ chosen ef e
+
+  -- ---- what it stands for: the definitions' `parseUnchecked`, in both modes
+
+  pub answer-agrees : (m : Arrays) → emitOf s (text "payload") order m (λ id. sizeBacking s id fs) answer ≡ parseUnchecked (setting m) shift here later
+  answer-agrees m = unchecked-agree (setting m) shift here later
+
+  -- ---- its numbers fit
+
+  module _ (fine : Fine s places own parents payloads fields i n) (w : k < n) where
+    fits-by : (cond : Cond) → here .field .cond ≡ cond → EmitFits (valueBy (here .field) cond)
+    fits-by Cond.None e = other-fits s rows fs order shift (here .fieldSize) (here .paddedSize) (getTrailingSize later) (here .field .desc) plain
       where
-        plain : largeSize (descSize s rows fs (f .desc)) ≡ false
+        plain : largeSize (descSize s rows fs (here .field .desc)) ≡ false
         plain =
-            sym (ap (λ (c : Cond). largeSize (elim c [ Cond.None ↦ descSize s rows fs (f .desc) | Cond.Some id value ↦ Size.Dynamic ])) e)
-            ∙ ap (λ (f : Field). largeSize (annotateField s rows fs f)) ef ∙ size-fine s places own parents payloads fields i n fine k w
+            sym (ap (λ (c : Cond). largeSize (elim c [ Cond.None ↦ descSize s rows fs (here .field .desc) | Cond.Some id value ↦ Size.Dynamic ])) e)
+            ∙ size-fine s places own parents payloads fields i n fine k w
+    fits-by (Cond.Some id value) e = optional-fits s rows id value (here .field .desc)
+
+    pub answer-fits : EmitFits answer
+    unfolding uncheckedAt
+    answer-fits = fits-by (here .field .cond) refl

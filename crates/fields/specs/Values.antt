@@ -1,10 +1,12 @@
--- `parseOther` and `parseOptionalField` of the definitions with their names as parts of the record: `others-agree` and `optionals-agree`
--- (proofs/Agree) say that they come to the same.
+-- `parseOther`, `parseOptionalField` and `parseUnchecked` of the definitions with their names as parts of the record: `others-agree`,
+-- `optionals-agree` and `unchecked-agree` (proofs/Agree) say that they come to the same.
 -- Assumes nothing.
 use mathlib.Core.List.{List}
 use Prim.Native.Nat.{ℕ}
 use Rattle.definitions.specs.Bytes.{Text, pick}
-use Rattle.definitions.specs.Sizes.{Row, enumOf, hasPayloadSize}
+use Rattle.definitions.specs.Sizes.{Row, Annotated, enumOf, hasPayloadSize}
+use Rattle.definitions.specs.FieldParser.{getTrailingSize}
+use Rattle.definitions.specs.declared.Cond.{Cond}
 use Rattle.definitions.specs.declared.EndiannessValue.{EndiannessValue}
 use Rattle.definitions.specs.declared.Field.{Field}
 use Rattle.definitions.specs.declared.FieldDesc.{FieldDesc}
@@ -65,3 +67,11 @@ otherAt s rows fs order shift size padding trailing (FieldDesc.Array id width ty
 otherAt s rows fs order shift size padding trailing (FieldDesc.Scalar id width) = EmitAt.Silent
 otherAt s rows fs order shift size padding trailing (FieldDesc.Flag id) = EmitAt.Silent
 otherAt s rows fs order shift size padding trailing (FieldDesc.Typedef id type) = typedefAt shift id type size trailing
+
+-- ---- a field that is no bit field, by its condition: `later` are the fields behind it
+
+unfoldable pub uncheckedAt : Text → List Row → List Field → EndiannessValue → ℕ → Annotated → List Annotated → EmitAt
+uncheckedAt s rows fs order shift here later = elim (here .field .cond) [
+  | Cond.None ↦ otherAt s rows fs order shift (here .fieldSize) (here .paddedSize) (getTrailingSize later) (here .field .desc)
+  | Cond.Some id value ↦ optionalAt s rows id value (here .field .desc)
+]

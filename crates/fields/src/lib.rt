@@ -17,7 +17,7 @@ ghost use Rattle.definitions.specs.FieldParser.{getTrailingSize};
 ghost use Rattle.definitions.specs.Tables.{rowsFrom};
 ghost use Rattle.emits.specs.Target.{rowsOf, fieldsOf, annotatedAt, restAt, Fine};
 ghost use Rattle.fields.specs.Values.{optionalType, optionalAt, otherAt};
-ghost use Rattle.fields.specs.Parsed.{Parsed};
+ghost use Rattle.fields.specs.Parsed.{parsedAt};
 
 // ---- an optional field
 
@@ -241,7 +241,7 @@ pub fn parse_unchecked(
 ) -> EmitAt
     requires { ⌜ k < n ⌝ }
     requires { ⌜ Fine (now rec) (now places) (now own) (now parents) (now payloads) (now fields) i n ⌝ }
-    ensures { λ r. ⌜ Parsed (now (rec .entry)) (now (places .entry)) (now (own .entry)) (now (parents .entry)) (now (payloads .entry)) (now (fields .entry)) i n k shift endianness r ⌝ }
+    ensures { λ r. ⌜ r ≡ parsedAt (now (rec .entry)) (now (places .entry)) (now (own .entry)) (now (parents .entry)) (now (payloads .entry)) (now (fields .entry)) i n k shift endianness ⌝ }
 {
     let f = references::field_in(rec, fields, i, k);
     let cond = f.cond;

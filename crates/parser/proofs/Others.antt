@@ -28,9 +28,10 @@ use Rattle.chunks.proofs.Within.{Within, within-calm}
 use Rattle.emits.specs.BlockOf.{blockOf, BlockFits, emitOf, EmitFits}
 use Rattle.emits.specs.declared.BlockAt.{BlockAt}
 use Rattle.emits.specs.declared.EmitAt.{EmitAt}
-use Rattle.emits.specs.Target.{fieldsOf, settingAt, restAt, fieldIn, annotatedAt}
+use Rattle.emits.specs.Target.{fieldsOf, settingAt, restAt, fieldIn, annotatedAt, Fine}
 use Rattle.emits.proofs.Rests.{rest-step}
-use Rattle.fields.specs.Parsed.{Parsed as Unchecked}
+use Rattle.fields.specs.Parsed.{parsedAt}
+use Rattle.fields.proofs.Answers.{answer-agrees, answer-fits}
 use Rattle.parser.specs.declared.Lowered.{Lowered}
 use Rattle.parser.specs.Driver.{seen, Turn, emits, Emitted, from, Parsed}
 use Rattle.parser.proofs.BitFields.{within, sums, going-by}
@@ -52,15 +53,17 @@ module _ (s places own parents payloads fields : List ℕ) (i n : ℕ) where
 
     -- ---- what the field emits
 
-    module _ (shift : ℕ) {e : EmitAt} (u : Unchecked s places own parents payloads fields i n k shift order e) where
+    module _ (shift : ℕ) {e : EmitAt} (u : e ≡ parsedAt s places own parents payloads fields i n k shift order) where
       abbrev backing : Part → ℕ
       backing id = sizeBacking s id (fieldsOf s places own parents payloads fields i n)
 
       emits-as : {x : EmitAt} → e ≡ x → emits s places own parents payloads fields i n order m k shift ≡ emitOf s (text "payload") order m backing x
-      emits-as h = sym (u .answer m) ∙ ap (emitOf s (text "payload") order m backing) h
+      emits-as h =
+          sym (answer-agrees s places own parents payloads fields i n k shift order m)
+          ∙ ap (emitOf s (text "payload") order m backing) (sym u ∙ h)
 
-      pub block-fits : {b : BlockAt} → e ≡ EmitAt.Appends b → BlockFits b
-      block-fits h = subst EmitFits h (u .fits)
+      pub block-fits : (k < n) × Fine s places own parents payloads fields i n → {b : BlockAt} → e ≡ EmitAt.Appends b → BlockFits b
+      block-fits z h = subst EmitFits (sym u ∙ h) (answer-fits s places own parents payloads fields i n k shift order (z .1) (z .0))
 
       pub emits-block : {b : BlockAt} → e ≡ EmitAt.Appends b → {out left : Text} {at p : ℕ}
           → ((bits : Part → ℕ) → Put out at (blockText (blockOf s (text "payload") order m bits b)) p left)
