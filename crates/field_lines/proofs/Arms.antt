@@ -53,21 +53,22 @@ pub array-fits : (b : BlockAt) (padding : MaybeNumber) (id : Part) (type : Maybe
 array-fits b padding id type element k e n h d = rw d at h
 
 module _ (s word : Text) (order : EndiannessValue) (m : Arrays) (bits : Part → ℕ) (b : BlockAt) {l l₁ : Text} {i r : ℕ} where
-  pub sized-payload-at : (k : Modifier) → b ≡ BlockAt.SizedPayload k
-      → Put l i (blockText (Block.sizedPayload (named m word (text "_")) (named m word (text "_size_")) k)) r l₁
-      → Put l i (blockText (blockOf s word order m bits b)) r l₁
-  unfolding blockOf
-  sized-payload-at k e p = rw e p
+  module _ {x : Text} (hw : x ≡ word) where
+    pub sized-payload-at : (k : Modifier) → b ≡ BlockAt.SizedPayload k
+        → Put l i (blockText (Block.sizedPayload (named m x (text "_")) (named m x (text "_size_")) k)) r l₁
+        → Put l i (blockText (blockOf s word order m bits b)) r l₁
+    unfolding blockOf
+    sized-payload-at k e p = rw (e, blockOf, sym hw) p
 
-  pub payload-up-to-at : (n : ℕ) → b ≡ BlockAt.PayloadUpTo n → Put l i (blockText (Block.payloadUpTo (named m word (text "_")) n)) r l₁
-      → Put l i (blockText (blockOf s word order m bits b)) r l₁
-  unfolding blockOf
-  payload-up-to-at n e p = rw e p
+    pub payload-up-to-at : (n : ℕ) → b ≡ BlockAt.PayloadUpTo n → Put l i (blockText (Block.payloadUpTo (named m x (text "_")) n)) r l₁
+        → Put l i (blockText (blockOf s word order m bits b)) r l₁
+    unfolding blockOf
+    payload-up-to-at n e p = rw (e, blockOf, sym hw) p
 
-  pub payload-to-end-at : b ≡ BlockAt.PayloadToEnd → Put l i (blockText (Block.payloadToEnd (named m word (text "_")))) r l₁
-      → Put l i (blockText (blockOf s word order m bits b)) r l₁
-  unfolding blockOf
-  payload-to-end-at e p = rw e p
+    pub payload-to-end-at : b ≡ BlockAt.PayloadToEnd → Put l i (blockText (Block.payloadToEnd (named m x (text "_")))) r l₁
+        → Put l i (blockText (blockOf s word order m bits b)) r l₁
+    unfolding blockOf
+    payload-to-end-at e p = rw (e, blockOf, sym hw) p
 
   pub array-at : (padding : MaybeNumber) (id : Part) (type : MaybePart) (element : Element) (k : Modifier) (e : ElementSize) (n : ArraySize)
       → b ≡ BlockAt.Array padding id type element k e n

@@ -10,6 +10,7 @@ use definitions::Modifier;
 use definitions::Part;
 use elements::Element;
 use emits::BlockAt;
+use names::WrittenName;
 ghost use mathlib.Core.Path.{_≡_};
 ghost use Prim.Native.Nat.{ℕ};
 ghost use Rattle.definitions.specs.declared.Part.{Part};
@@ -88,21 +89,18 @@ pub fn put_block<'a>(
     ensures { λ r. ⌜ ((bits : Part → ℕ) → Put (now (out .entry)) at (blockText (blockOf (now (rec .entry)) (now (word .entry)) endianness arrays bits block)) r (now (out .exit))) ⌝ }
 {
     match block {
-        BlockAt::SizedPayload(modifier) => payload_lines::put_sized_payload(
-            out,
-            at,
-            arrays,
-            word,
-            modifier,
-        ),
-        BlockAt::PayloadUpTo(bytes) => payload_lines::put_payload_up_to(
-            out,
-            at,
-            arrays,
-            word,
-            bytes,
-        ),
-        BlockAt::PayloadToEnd => payload_lines::put_payload_to_end(out, at, arrays, word),
+        BlockAt::SizedPayload(modifier) => {
+            let x = names::name(rec, word, WrittenName::Payload);
+            payload_lines::put_sized_payload(out, at, arrays, x, modifier)
+        }
+        BlockAt::PayloadUpTo(bytes) => {
+            let x = names::name(rec, word, WrittenName::Payload);
+            payload_lines::put_payload_up_to(out, at, arrays, x, bytes)
+        }
+        BlockAt::PayloadToEnd => {
+            let x = names::name(rec, word, WrittenName::Payload);
+            payload_lines::put_payload_to_end(out, at, arrays, x)
+        }
         BlockAt::Array {
             padding,
             id,

@@ -6,17 +6,26 @@ use Rattle.field_lines.proofs.put_block.Tie as tie
 enum-known-block : tie.Need-enum-known-block
 enum-known-block c = search needs
 
+name-requires : tie.Need-name-requires
+name-requires c κs = search needs
+
 put-sized-payload-requires : tie.Need-put-sized-payload-requires
 put-sized-payload-requires c κs = search needs
 
 enum-known-block-2 : tie.Need-enum-known-block-2
 enum-known-block-2 c = search needs
 
+name-requires-2 : tie.Need-name-requires-2
+name-requires-2 c κs = search needs
+
 put-payload-up-to-requires : tie.Need-put-payload-up-to-requires
 put-payload-up-to-requires c κs = search needs
 
 enum-told : tie.Need-enum-told
 enum-told c = search needs
+
+name-requires-3 : tie.Need-name-requires-3
+name-requires-3 c κs = search needs
 
 put-payload-to-end-requires : tie.Need-put-payload-to-end-requires
 put-payload-to-end-requires c κs = search needs
@@ -173,10 +182,13 @@ put-block-spec =
     tie.close
     (tie.spec
     enum-known-block
+    name-requires
     put-sized-payload-requires
     enum-known-block-2
+    name-requires-2
     put-payload-up-to-requires
     enum-told
+    name-requires-3
     put-payload-to-end-requires
     enum-known-block-3
     put-array-requires
