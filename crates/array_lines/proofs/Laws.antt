@@ -1,6 +1,6 @@
 -- The shared statements of arrays, from the pieces that are put one after the other.
 -- Assumes nothing.
-use mathlib.Core.List.{List, [], _∷_, _++_}
+use mathlib.Core.List.{[], _∷_, _++_}
 use Prim.Native.Nat.{ℕ}
 use Rattle.definitions.specs.Bytes.{Text, text}
 use Rattle.definitions.specs.Lines.{Stmt, exprText}

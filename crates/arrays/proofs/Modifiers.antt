@@ -1,26 +1,26 @@
 -- The size modifier, and an array's lines behind it.
 -- Assumes nothing.
-use mathlib.Core.List.{List, [], _∷_, _++_}
+use mathlib.Core.List.{List, [], _++_}
 use mathlib.Core.Path.{_≡_, refl, sym, ap, _∙_}
 use Prim.Native.Nat.{ℕ, _<_, _^_}
 use lib.ListN.{length}
 use Rattle.definitions.specs.Bytes.{Text, text, decimal}
-use Rattle.definitions.specs.Lines.{Stmt, Line, stmtsText, render}
-use Rattle.definitions.specs.Blocks.{named, Elem, modifierLines, fieldLines, parseArrayFieldLite, parseArrayFieldFull}
+use Rattle.definitions.specs.Lines.{Stmt, Line, render}
+use Rattle.definitions.specs.Blocks.{named, Elem, modifierLines, parseArrayFieldLite, parseArrayFieldFull}
 use Rattle.definitions.specs.declared.Arrays.{Arrays}
 use Rattle.definitions.specs.declared.Modifier.{Modifier}
 use Rattle.definitions.specs.declared.ElementSize.{ElementSize}
 use Rattle.definitions.specs.declared.ArraySize.{ArraySize}
 use Rattle.text.specs.Put.{Put}
 use Rattle.text.proofs.Puts.{chain, like, still}
-use Rattle.stream.proofs.Texts.{Leads, none, piece, _▸_, line-leads}
+use Rattle.stream.proofs.Texts.{piece, _▸_, line-leads}
 use Rattle.expressions.specs.Statements.{stmtsBytes}
 use Rattle.expressions.proofs.Follow.{follow}
 use Rattle.elements.specs.Elements.{elementOf}
 use Rattle.elements.specs.declared.Element.{Element}
 use Rattle.lite_arrays.specs.Shapes.{liteText}
 use Rattle.full_arrays.specs.Shapes.{fullText}
-use Rattle.arrays.specs.Shapes.{modifiedText, modifierText, arrayOf, arrayText}
+use Rattle.arrays.specs.Shapes.{modifiedText, modifierText, arrayText}
 
 pub modified-line : (x sign : Text) (n : ℕ) {l l₁ l₂ l₃ : Text} {i r₁ r₂ r₃ : ℕ} → Put l i (x ++ text " = ") r₁ l₁ → Put l₁ r₁ x r₂ l₂
     → Put l₂ r₂ (sign ++ (decimal n ++ text ";\n")) r₃ l₃

@@ -1,6 +1,6 @@
 -- The text of an array's lines with its size modifier by the definitions, at names that are bytes.
 -- Assumes nothing.
-use mathlib.Core.List.{List, [], _∷_, _++_}
+use mathlib.Core.List.{[], _++_}
 use Prim.Native.Nat.{ℕ}
 use Rattle.definitions.specs.Bytes.{Text, text, decimal}
 use Rattle.definitions.specs.Lines.{render}

@@ -1,7 +1,7 @@
 -- The stored form of cases (oracle/README.md, 'Cases'), as it is found at a place of a text. `Cut` means that the text ends too early.
 -- Assumes nothing.
-use mathlib.Core.Bool.{Bool, true, false}
-use mathlib.Core.List.{List, [], _∷_}
+use mathlib.Core.Bool.{true, false}
+use mathlib.Core.List.{[], _∷_}
 use mathlib.Core.Path.{_≡_}
 use Prim.Native.Nat.{ℕ, _+_, _*_, _-_, min}
 use lib.Dec.{leb, ltb, eqb}

@@ -17,7 +17,7 @@ use Rattle.definitions.specs.FieldParser.{Setting, staticWidth, nextNr, isBit}
 use Rattle.definitions.specs.declared.Arrays.{Arrays}
 use Rattle.definitions.specs.declared.EndiannessValue.{EndiannessValue}
 use Rattle.definitions.specs.declared.Size.{Size}
-use Rattle.stream.specs.Stream.{fresh, runBits, calm}
+use Rattle.stream.specs.Stream.{runBits, calm}
 use Rattle.stream.specs.Stream as flow
 use Rattle.stream.proofs.Steps.{run-bit, run-no}
 use Rattle.chunk_lines.specs.declared.Held.{Held}
@@ -31,9 +31,6 @@ pub record Within (s : flow.State) (n bits : ℕ) : Type 0 where
   pub sum : s .shift ≡ widths (s .chunk)
   pub shifts : s .shift ≤ bits
   pub chunks : s .chunkNr ≤ n
-
-pub within-start : Within fresh 0 0
-within-start = record { fields = omega arith; sum = refl; shifts = omega arith; chunks = omega arith }
 
 pub within-calm : (s : flow.State) (n bits : ℕ) → Within s n bits → Within (calm s) (n + 1) bits
 within-calm s n bits w =

@@ -1,10 +1,10 @@
 -- The lines of elements and loops, from the pieces that are put one after the other.
 -- Assumes nothing.
-use mathlib.Core.List.{List, [], _∷_, _++_, append-assoc}
-use mathlib.Core.Path.{_≡_, refl, sym, ap, _∙_}
+use mathlib.Core.List.{List, [], _++_, append-assoc}
+use mathlib.Core.Path.{_≡_, refl, ap}
 use Prim.Native.Nat.{ℕ}
 use Rattle.definitions.specs.Bytes.{Text, text}
-use Rattle.definitions.specs.Lines.{Line, Before, Dest, Out, Stmt, exprText, srcText, destEnd, lineText, linesText, bodyText, stmtText}
+use Rattle.definitions.specs.Lines.{Line, Before, Out, srcText, destEnd, lineText, linesText, bodyText, stmtText}
 use Rattle.definitions.specs.Blocks.{span, raw, elementSpan, named, bare, readOf, parseLines, parseArrayElement, Elem}
 use Rattle.definitions.specs.declared.Arrays.{Arrays}
 use Rattle.definitions.specs.declared.EndiannessValue.{EndiannessValue}

@@ -8,7 +8,6 @@ use lib.ListN.{getD}
 use Rattle.definitions.specs.Bytes.{Text}
 use Rattle.definitions.specs.Sizes.{annotateFields}
 use Rattle.definitions.specs.Tables.{fieldHere, fieldsFrom}
-use Rattle.definitions.specs.declared.Field.{Field}
 use Rattle.emits.specs.Target.{rowsOf, fieldsOf, restAt, annotatedAt}
 
 fields-step : (s : Text) (fields : List ℕ) (j m : ℕ) → 0 < m

@@ -1,6 +1,6 @@
 -- The definitions' block, and `Emit`, that the by-value ones stand for.
 -- Assumes nothing.
-use mathlib.Core.List.{List, []}
+use mathlib.Core.List.{[]}
 use Prim.Native.Nat.{ℕ, _<_, _^_}
 use Rattle.definitions.specs.Bytes.{Text, text, part}
 use Rattle.definitions.specs.Blocks.{named, Block}

@@ -1,7 +1,7 @@
 -- A text of Lines that was put, and then what follows it, are the text before what follows.
 -- Assumes nothing.
 use mathlib.Core.List.{List, [], _∷_}
-use mathlib.Core.Path.{_≡_, sym}
+use mathlib.Core.Path.{sym}
 use Prim.Native.Nat.{ℕ}
 use Rattle.definitions.specs.Bytes.{Text}
 use Rattle.definitions.specs.Lines.{Stmt}

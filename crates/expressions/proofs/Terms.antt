@@ -1,10 +1,8 @@
 -- Names, terms, amounts and reads, from the pieces that are put one after the other.
 -- Assumes nothing.
-use mathlib.Core.Bool.{Bool, true, false}
-use mathlib.Core.List.{List, [], _∷_, _++_, append-assoc}
-use mathlib.Core.Path.{_≡_, refl, sym, ap, _∙_}
+use mathlib.Core.List.{_++_, append-assoc}
+use mathlib.Core.Path.{_≡_, sym}
 use Prim.Native.Nat.{ℕ, _/_, _≤_, _<_}
-use lib.Dec.{ltb}
 use native.Mathlib.Decide.{decLt}
 use native.Mathlib.Omega.{arith}
 use borrow.Author.Tests.{le-ltb, lt-leb}
@@ -22,7 +20,6 @@ use Rattle.stream.proofs.Texts.{Leads, piece, _▸_, expr-leads}
 use Rattle.expressions.specs.Amounts.{termOf, amountOf, sizedRead}
 use Rattle.expressions.specs.declared.Term.{Term}
 use Rattle.expressions.specs.declared.Amount.{Amount}
-use Rattle.expressions.proofs.Follow.{follow}
 
 -- the mode's prefix
 pub by-mode : (m k : Arrays) (id end : Text) {l l₁ : Text} {i r : ℕ} → m ≡ k → Put l i (named k id end) r l₁ → Put l i (named m id end) r l₁

@@ -15,13 +15,13 @@ use Rattle.expressions.specs.declared.Term.{Term}
 use Rattle.expressions.specs.declared.Amount.{Amount}
 use Rattle.expressions.proofs.Follow.{first, only, follow}
 use Rattle.stream.proofs.Texts.{stmts-leads}
-use Rattle.elements.specs.Elements.{elementOf, sourceOf, placeOf, loopOf, inPart}
+use Rattle.elements.specs.Elements.{elementOf, sourceOf, placeOf, loopOf}
 use Rattle.elements.specs.declared.Element.{Element}
 use Rattle.elements.specs.declared.Source.{Source}
 use Rattle.elements.specs.declared.Place.{Place}
 use Rattle.elements.specs.declared.Loop.{Loop}
-use Rattle.array_lines.specs.Statements.{checkStmt, skipStmt, raggedOrZeroTest}
-use Rattle.full_arrays.specs.Statements.{ownSpanStmt, countedStmts, productParts, countedParts, ownCountStmt}
+use Rattle.array_lines.specs.Statements.{checkStmt, skipStmt}
+use Rattle.full_arrays.specs.Statements.{ownSpanStmt, countedStmts, productParts, countedParts}
 use Rattle.array_lines.proofs.Laws.{three}
 use Rattle.full_arrays.specs.Shapes.{fullText}
 

@@ -1,10 +1,9 @@
 -- `parse_array_field_lite`: each shape from the statements that are put one after the other.
 -- Assumes nothing.
-use mathlib.Core.List.{List, [], _∷_}
+use mathlib.Core.List.{_∷_}
 use mathlib.Core.Path.{_≡_}
 use Prim.Native.Nat.{ℕ, _*_}
 use Rattle.definitions.specs.Bytes.{Text}
-use Rattle.definitions.specs.Lines.{Stmt}
 use Rattle.definitions.specs.declared.Arrays.{Arrays}
 use Rattle.definitions.specs.declared.ElementSize.{ElementSize}
 use Rattle.definitions.specs.declared.ArraySize.{ArraySize}

@@ -1,6 +1,6 @@
 -- The statements of lite mode, from the pieces that are put one after the other.
 -- Assumes nothing.
-use mathlib.Core.List.{List, [], _∷_, _++_, append-assoc}
+use mathlib.Core.List.{_++_, append-assoc}
 use mathlib.Core.Path.{_≡_, refl, ap}
 use Prim.Native.Nat.{ℕ}
 use Rattle.definitions.specs.Bytes.{Text, text, decimal, digitsIn}

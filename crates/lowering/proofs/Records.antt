@@ -1,22 +1,20 @@
 -- The reader's answer and what stands behind it come to the record's answer.
 -- Assumes nothing.
 use Prim.Native.Nat.{ℕ, _*_, _^_}
-use mathlib.Core.List.{List}
-use mathlib.Core.Path.{_≡_, refl, sym, ap, _∙_, subst}
+use mathlib.Core.Path.{_≡_, sym, _∙_, subst}
 use lib.ListN.{length}
 use Rattle.definitions.specs.Bytes.{Text}
-use Rattle.definitions.specs.Sizes.{Schema, newSchema}
+use Rattle.definitions.specs.Sizes.{newSchema}
 use Rattle.definitions.specs.Refusals.{number, verdict}
 use Rattle.definitions.specs.FieldParser.{Outcome, refused}
 use Rattle.definitions.specs.Answer.{lowerIn, lowerRecord, answer, lower, word, bufferAfter}
 use Rattle.definitions.specs.declared.Head.{Head}
 use Rattle.definitions.specs.declared.Refusal.{Refusal}
-use Rattle.definitions.specs.declared.Verdict.{Verdict}
 use Rattle.places.specs.Places.{Tables, given}
-use Rattle.record.specs.Reader.{reading, tablesAfter, OfRecord}
+use Rattle.record.specs.Reader.{OfRecord}
 use Rattle.record.specs.declared.Reading.{Reading}
 use Rattle.record.proofs.Agree.{Whole}
-use Rattle.record.proofs.Answered.{Passed, answer-refused, reading-passed, answer-passed, verdict-passed, laterVerdict}
+use Rattle.record.proofs.Answered.{Passed, answer-refused, reading-passed, answer-passed, verdict-passed}
 use Rattle.sizes.specs.Answers.{checkSizes, sizesVerdict}
 use Rattle.sizes.specs.declared.Sizing.{Sizing}
 use Rattle.sizes.proofs.Verdicts.{sizes-verdict}

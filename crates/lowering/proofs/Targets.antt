@@ -1,19 +1,19 @@
 -- Behind refusals 7 to 9: the target stands in the tables at the index that `check_sizes` gives, its fields are behind refusal 7, and lowering them is
 -- lowering the record.
 -- Assumes nothing.
-use Prim.Native.Nat.{ℕ, zero, suc, _+_, _*_, _-_, _^_, _≤_, _<_}
+use Prim.Native.Nat.{ℕ, zero, suc, _+_, _*_, _-_, _^_, _<_}
 use mathlib.Core.Bool.{Bool, true, false, _&&_, _||_}
-use mathlib.Core.List.{List, []}
+use mathlib.Core.List.{List}
 use mathlib.Core.Path.{_≡_, refl, sym, ap, _∙_, subst}
-use native.Mathlib.Nat.{zero-add, add-zero, sub-zero}
+use native.Mathlib.Nat.{add-zero, sub-zero}
 use native.Mathlib.Omega.{arith}
-use lib.ListN.{length, getD}
+use lib.ListN.{getD}
 use Rattle.definitions.specs.Bytes.{Text, any}
-use Rattle.definitions.specs.Record.{Declaration, onFound}
+use Rattle.definitions.specs.Record.{onFound}
 use Rattle.definitions.specs.Sizes.{Schema, Annotated, sameName, annotateFields, newSchema}
 use Rattle.definitions.specs.Refusals.{number, tooLarge, largeField, largeRow, largeEntry, staticSum, large, ragged, isFrame}
 use Rattle.definitions.specs.Tables.{fieldsFrom, declarationsFrom}
-use Rattle.definitions.specs.FieldParser.{Setting, Outcome, refused, lowerFields}
+use Rattle.definitions.specs.FieldParser.{Outcome, refused, lowerFields}
 use Rattle.definitions.specs.Answer.{lowerTarget, lowerIn}
 use Rattle.definitions.specs.declared.Found.{Found}
 use Rattle.definitions.specs.declared.Head.{Head}

@@ -1,6 +1,6 @@
 -- Parts of the text of a nested parser, before what follows them.
 -- Assumes nothing.
-use mathlib.Core.List.{List, [], _∷_}
+use mathlib.Core.List.{[], _∷_}
 use Prim.Native.Nat.{ℕ}
 use Rattle.definitions.specs.Bytes.{Text, text}
 use Rattle.definitions.specs.Lines.{Expr, Test, Before, Line, linesText}

@@ -1,6 +1,6 @@
 -- Optional fields, from the pieces that are put one after the other.
 -- Assumes nothing.
-use mathlib.Core.List.{List, [], _∷_, _++_}
+use mathlib.Core.List.{[], _∷_, _++_}
 use Prim.Native.Nat.{ℕ, _/_}
 use Rattle.definitions.specs.Bytes.{Text, text, decimal}
 use Rattle.definitions.specs.Lines.{Expr, Test, Before, Line, srcText}

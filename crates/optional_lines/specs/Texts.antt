@@ -1,6 +1,6 @@
 -- Parts of the text of an optional field, before what follows them.
 -- Assumes nothing.
-use mathlib.Core.List.{List, [], _∷_, _++_}
+use mathlib.Core.List.{[], _∷_, _++_}
 use Prim.Native.Nat.{ℕ, _/_}
 use Rattle.definitions.specs.Bytes.{Text, text}
 use Rattle.definitions.specs.Lines.{Expr, Test, Before, Line, testText, linesText}

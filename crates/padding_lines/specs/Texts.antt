@@ -1,6 +1,6 @@
 -- Parts of the text of a padding.
 -- Assumes nothing.
-use mathlib.Core.List.{List, [], _∷_, _++_}
+use mathlib.Core.List.{[], _∷_, _++_}
 use Prim.Native.Nat.{ℕ}
 use Rattle.definitions.specs.Bytes.{Text}
 use Rattle.definitions.specs.Lines.{Expr, Test, Line, Stmt, exprText, stmtText}

@@ -12,7 +12,7 @@ use definitions::Field;
 use definitions::Verdict;
 use emits::EmitAt;
 ghost use mathlib.Core.Path.{_≡_};
-ghost use mathlib.Core.Bool.{true, false};
+ghost use mathlib.Core.Bool.{false};
 ghost use Prim.Native.Nat.{_+_, _≤_, _<_, _^_};
 ghost use Rattle.definitions.specs.Bytes.{text};
 ghost use Rattle.definitions.specs.FieldParser.{isBit, lowerFields};

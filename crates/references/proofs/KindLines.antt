@@ -6,7 +6,7 @@ use mathlib.Core.Bool.{Bool, true, false, not, _||_}
 use mathlib.Core.List.{List, [], _∷_}
 use mathlib.Core.Path.{_≡_, refl, sym, ap, _∙_}
 use native.Mathlib.Omega.{arith}
-use borrow.Author.Tests.{not-true, not-false}
+use borrow.Author.Tests.{not-true}
 use lib.ListN.{drop}
 use Rattle.definitions.specs.Bytes.{Text, text}
 use Rattle.definitions.specs.Record.{isFound, keyOf, keyAt, onFound, onNumber, onName, onModifier, onMaybeNumber, onMaybePart, onDesc, onCond, onField, Kinds, choose, kinds, descAt, condAt, fieldAt, nameLine, numberLine, modifierLine, maybeNumberLine, maybeNameLine, oneArray, scalarAt, sizeAt, countAt, elementSizeAt, fixedScalarAt, fixedEnumAt, reservedAt, flagAt, typedefAt, arrayRest, arrayAt, payloadAt, paddingAt, checksumAt}

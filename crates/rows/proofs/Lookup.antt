@@ -5,7 +5,6 @@ use mathlib.Core.Bool.{Bool, true, false}
 use mathlib.Core.List.{List}
 use mathlib.Core.Option.{Option, none, some}
 use mathlib.Core.Path.{_≡_, refl, sym, ap, _∙_}
-use native.Mathlib.Omega.{arith}
 use lib.ListN.{getD}
 use Rattle.definitions.specs.Bytes.{Text}
 use Rattle.definitions.specs.Record.{onFound}
@@ -91,13 +90,3 @@ module _ (s p : List ℕ) (n : ℕ) {d : FieldDesc} where
   bitfield-typedef {id} {type} e {t} et eb own par pay =
       eb ∙ ap isEnumType (et own par pay) ∙ is-enum-type (enumOf s (rowsFrom s p own par pay 0 n) type)
       ∙ ap (isBitfield s (rowsFrom s p own par pay 0 n)) (sym e)
-
--- ---- for callers that match on the answer
-
-pub enum-is : (x : EnumOf) {width : ℕ} {isOpen isComplete : Bool} → EnumType.Enum width isOpen isComplete ≡ enumType x → x ≡ enumIs width isOpen isComplete
-enum-is (enumIs width isOpen isComplete) e = cc
-enum-is noEnum e = absurd (let v : _≡_ {A = ℕ} 0 1 = cc in omega arith)
-
-pub enum-is-not : (x : EnumOf) → EnumType.None ≡ enumType x → x ≡ noEnum
-enum-is-not (enumIs width isOpen isComplete) e = absurd (let v : _≡_ {A = ℕ} 0 1 = cc in omega arith)
-enum-is-not noEnum e = refl
