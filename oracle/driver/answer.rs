@@ -1,7 +1,6 @@
 //! The answer to any byte string: our refusals 1 to 9, then what the published Rust gives.
 
 use crate::analyzer::{Schema, Scope};
-use crate::ast;
 use crate::backends::cxx::field_parser::{self, Panic};
 use crate::published;
 use crate::record::{Decl, Record};
@@ -14,14 +13,23 @@ pub const BUFFER: usize = 65_536;
 /// The lines as bytes, each with its newline, or the first of refusals 1 to 14.
 pub type Answer = Result<Vec<u8>, Refusal>;
 
-/// The answer, after checking our tables of sizes against the published ones.
+/// The answer; on the way our tables of sizes are checked against the published ones.
 pub fn answer(bytes: &[u8]) -> Answer {
-    judge(bytes, published::assert_equal_tables)
-}
+    let record = refusals::of_the_text(bytes)?;
+    let tables = Tables::new(&record);
+    refusals::of_the_sizes(&tables)?;
 
-/// The same answer without that check, for timing.
-pub fn answer_unchecked(bytes: &[u8]) -> Answer {
-    judge(bytes, |_, _, _| ())
+    let file = published::file(&record);
+    let scope = Scope::new(&file).expect("refusal 4 lets no name pass twice");
+    let schema = Schema::new(&file);
+    published::assert_equal_tables(&file, &schema, &tables);
+
+    refusals::of_the_target(&record, &tables)?;
+    let target = scope.typedef[&record.target];
+    match field_parser::lines(&scope, &schema, record.arrays, target) {
+        Ok(code) => Ok(joined(&code)),
+        Err(panic) => Err(of_panic(&record, panic)),
+    }
 }
 
 /// The number and the lines for a buffer of this length: here refusal 15 comes in.
@@ -30,24 +38,6 @@ pub fn within(buffer: usize, answer: &Answer) -> (u8, &[u8]) {
         Ok(lines) if lines.len() > buffer => (15, &[]),
         Ok(lines) => (0, lines),
         Err(refusal) => (refusal.number, &[]),
-    }
-}
-
-fn judge(bytes: &[u8], check: impl Fn(&ast::File, &Schema, &Tables)) -> Answer {
-    let record = refusals::of_the_text(bytes)?;
-    let tables = Tables::new(&record);
-    refusals::of_the_sizes(&tables)?;
-
-    let file = published::file(&record);
-    let scope = Scope::new(&file).expect("refusal 4 lets no name pass twice");
-    let schema = Schema::new(&file);
-    check(&file, &schema, &tables);
-
-    refusals::of_the_target(&record, &tables)?;
-    let target = scope.typedef[&record.target];
-    match field_parser::lines(&scope, &schema, record.arrays, target) {
-        Ok(code) => Ok(joined(&code)),
-        Err(panic) => Err(of_panic(&record, panic)),
     }
 }
 

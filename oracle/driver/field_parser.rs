@@ -14,13 +14,12 @@ pub struct Panic {
     pub message: String,
 }
 
-/// `new`, `parse` for each field of the target in order, and `done`.
-pub fn lines(
-    scope: &Scope,
-    schema: &Schema,
+fn new<'a>(
+    scope: &'a Scope<'a>,
+    schema: &'a Schema,
     arrays: Arrays,
-    target: &ast::Decl,
-) -> Result<Vec<String>, Panic> {
+    target: &'a ast::Decl,
+) -> FieldParser<'a> {
     let (prefix, extract_arrays) = match arrays {
         Arrays::Lite => ("", false),
         Arrays::Full => ("output->", true),
@@ -29,7 +28,30 @@ pub fn lines(
     let mut parser = FieldParser::new(scope, schema, endian, prefix, extract_arrays, target);
     let conditions = target.fields().filter_map(|field| field.cond.as_ref());
     parser.is_cond_for = conditions.map(|cond| cond.id.clone()).collect();
+    parser
+}
 
+/// The lines of a record that answers 0, for timing: nothing listens for a panic.
+pub fn accepted_lines(
+    scope: &Scope,
+    schema: &Schema,
+    arrays: Arrays,
+    target: &ast::Decl,
+) -> Vec<String> {
+    let mut parser = new(scope, schema, arrays, target);
+    target.fields().for_each(|field| parser.parse(field));
+    parser.done();
+    parser.code
+}
+
+/// `new`, `parse` for each field of the target in order, and `done`.
+pub fn lines(
+    scope: &Scope,
+    schema: &Schema,
+    arrays: Arrays,
+    target: &ast::Decl,
+) -> Result<Vec<String>, Panic> {
+    let mut parser = new(scope, schema, arrays, target);
     let mut at = 0;
     let parse_all = || {
         for field in target.fields() {

@@ -15,9 +15,11 @@ mod cases;
 #[cfg(port)]
 mod compare;
 mod damage;
+mod families;
 mod features;
 mod generate;
 mod histogram;
+mod lean;
 mod marked;
 #[cfg(port)]
 mod port;
@@ -49,7 +51,7 @@ judge replay < CASES                 whether the stored answers are the judge's
 judge digest < CASES                 one number for the size tables of all cases past refusal 9
 judge histogram < CASES              what the cases show
 judge survey SEED COUNT              the same for COUNT generated cases of each flavour
-judge bench SEED COUNT               nanoseconds for each accepted record, of COUNT generated
+judge bench SEED COUNT               nanoseconds for accepted records: COUNT mixed ones, and families
 judge compare SEED COUNT             the port against the judge: the marked cases, and COUNT
                                      generated ones of each flavour (see oracle/compare)
 ";
@@ -195,16 +197,7 @@ fn survey(seed: u64, count: usize) -> Outcome {
 }
 
 fn bench(seed: u64, count: usize) -> Outcome {
-    let records = timing::accepted(seed, count);
-    println!("{} records answer 0 of {count}", records.len());
-    let lower = |record: &[u8]| answer::answer_unchecked(record).map_or(0, |lines| lines.len());
-    println!("the Rust: {:.0} ns a record", timing::nanoseconds(&records, lower));
-    #[cfg(port)]
-    {
-        let mut buffer = vec![0; BUFFER];
-        let lower = |record: &[u8]| port::call(record, &mut buffer).1;
-        println!("the port: {:.0} ns a record", timing::nanoseconds(&records, lower));
-    }
+    timing::print(seed, count);
     Ok(ExitCode::SUCCESS)
 }
 

@@ -22,7 +22,7 @@ pub fn file(record: &Record) -> ast::File {
     file
 }
 
-fn loc() -> ast::SourceRange {
+pub fn loc() -> ast::SourceRange {
     ast::SourceRange::default()
 }
 
@@ -48,7 +48,7 @@ fn decl_of(decl: &Decl, fields: Vec<ast::Field>) -> ast::DeclDesc {
 }
 
 /// Tags for which the two tests of `backends::common` answer as the marks say.
-fn tags(width: u64, open: bool, complete: bool) -> Vec<ast::Tag> {
+pub fn tags(width: u64, open: bool, complete: bool) -> Vec<ast::Tag> {
     let largest = if width >= 64 { usize::MAX } else { (1 << width) - 1 };
     let id = String::new();
     let other = ast::Tag::Other(ast::TagOther { id: id.clone(), loc: loc() });
