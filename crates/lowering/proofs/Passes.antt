@@ -17,8 +17,8 @@ use Rattle.definitions.specs.FieldParser.{Setting, Outcome, refused, accepted, 
 use Rattle.definitions.specs.Answer.{lowered, fitted}
 use Rattle.definitions.specs.declared.Refusal.{Refusal}
 use Rattle.definitions.specs.declared.Verdict.{Verdict}
-use Rattle.stream.specs.Stream.{rendered}
-use Rattle.parser.specs.Driver.{Lowers}
+use Rattle.stream.specs.Stream.{rendered, fresh}
+use Rattle.parser.specs.Driver.{spelt, LowersTo, Lowers}
 use Rattle.parser.specs.declared.Lowered.{Lowered}
 use Rattle.lowering.specs.Steps.{Answers}
 
@@ -47,11 +47,11 @@ module _ (t out : Text) where
 
 -- ---- by the first pass, into a buffer of no consequence
 
-module _ (c : Setting) (xs : List Annotated) (buf left out : Text) (l : Lowered) (st : Lowers (rendered (lowerFields c xs)) buf 0 l left) where
+module _ (c : Setting) (xs : List Annotated) (buf left out : Text) (l : Lowered) (st : Lowers c xs buf 0 l left) where
   pub pass-refused : {why : Refusal} → l .verdict ≡ Verdict.Refuse why → {r : ℕ} → r ≡ number why * 2 ^ 32 → Answers (lowerFields c xs) out r out
   pass-refused {why} hv {r} e = by (lowerFields c xs) st
     where
-      by : (o : Outcome) → Lowers (rendered o) buf 0 l left → Answers o out r out
+      by : (o : Outcome) → LowersTo (rendered o) (spelt c fresh xs) buf 0 l left → Answers o out r out
       by (refused w) h =
           let hw : l .verdict ≡ Verdict.Refuse w = h .verdict-is in
           let q : w ≡ why = cc in
@@ -63,16 +63,17 @@ module _ (c : Setting) (xs : List Annotated) (buf left out : Text) (l : Lowered)
     unfolding lowered
     pass-no-room w {r} e = by (lowerFields c xs) st
       where
-        by : (o : Outcome) → Lowers (rendered o) buf 0 l left → Answers o out r out
+        by : (o : Outcome) → LowersTo (rendered o) (spelt c fresh xs) buf 0 l left → Answers o out r out
         by (refused why) h = absurd (let z : _≡_ {A = ℕ} 0 1 = cc (h .verdict-is) in omega arith)
         by (accepted bs) h = too-long (render (program bs)) out (omega (arith, w, h .wrote .next)) refl e
 
-    pub pass-written : l .at ≤ length out → (l₂ : Lowered) (left₂ : Text) → Lowers (rendered (lowerFields c xs)) out 0 l₂ left₂
+    pub pass-written : l .at ≤ length out → (l₂ : Lowered) (left₂ : Text) → Lowers c xs out 0 l₂ left₂
         → Answers (lowerFields c xs) out (l₂ .at) left₂
     unfolding lowered
     pass-written w l₂ left₂ su = by (lowerFields c xs) st su
       where
-        by : (o : Outcome) → Lowers (rendered o) buf 0 l left → Lowers (rendered o) out 0 l₂ left₂ → Answers o out (l₂ .at) left₂
+        by : (o : Outcome) → LowersTo (rendered o) (spelt c fresh xs) buf 0 l left → LowersTo (rendered o) (spelt c fresh xs) out 0 l₂ left₂
+            → Answers o out (l₂ .at) left₂
         by (refused why) h k = absurd (let z : _≡_ {A = ℕ} 0 1 = cc (h .verdict-is) in omega arith)
         by (accepted bs) h k =
             fits (render (program bs)) out (omega (arith, w, h .wrote .next, k .wrote .room)) refl

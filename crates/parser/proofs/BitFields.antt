@@ -1,7 +1,7 @@
 -- `parse` of a bit field: it is ready, and what it comes to is the stream's step.
 -- Assumes nothing.
 use mathlib.Core.Bool.{Bool, true, false}
-use mathlib.Core.List.{List}
+use mathlib.Core.List.{List, _∷_, _++_, append-nil}
 use mathlib.Core.Path.{_≡_, refl, sym, ap, _∙_, subst}
 use Prim.Native.Nat.{ℕ, _+_, _%_, _<_, _^_}
 use native.Mathlib.Omega.{arith}
@@ -37,12 +37,17 @@ use Rattle.field_kinds.proofs.Agree.{kinds-agree}
 use Rattle.emits.specs.Target.{rowsOf, fieldsOf, settingAt, restAt, fieldIn, annotatedAt}
 use Rattle.emits.proofs.Rests.{rest-step}
 use Rattle.runs.proofs.Later.{later-below, advance-later}
-use Rattle.parser.specs.Driver.{seen, Going, Turn, laterAt, from, Parsed}
+use Rattle.parser.specs.Driver.{seen, ifPasses, bitStep, spelt, Going, Turn, laterAt, from, speltFrom, Parsed}
 
 same-bits : (z : Size) → staticWidth z ≡ staticBits z
 same-bits (Size.Static bits) = refl
 same-bits Size.Dynamic = refl
 same-bits Size.Unknown = refl
+
+spelt-bit : (c : Setting) (a : Annotated) (later : List Annotated) (s : flow.State) → isBit c (a .field) ≡ true
+    → spelt c s (a ∷ later) ≡ bitStep c s a later .lines ++ ifPasses (bitStep c s a later .verdict) (spelt c (bitStep c s a later .after) later)
+unfolding spelt
+spelt-bit c a later s e = rw (e, spelt)
 
 -- `close`, with the later bits as the code has them
 module _ (m : Arrays) (s : Text) (order : EndiannessValue) (t : State) (kinds : List Held) {later x : ℕ} (e : later ≡ x) where
@@ -178,6 +183,10 @@ module _ (s places own parents payloads fields : List ℕ) (i n : ℕ) where
               ≡ onVerdict (step .verdict) (ahead (step .lines) (stream c (step .after) (rest (k + 1)))) =
               ap (stream c (seen m s t kinds)) (rest-step s places own parents payloads fields i n k h)
               ∙ bit-advances c (here k) (rest (k + 1)) (seen m s t kinds) (ap (isBit c) (sym ef) ∙ eb) in
+              let texts : speltFrom s places own parents payloads fields i n order m k k t kinds
+              ≡ step .lines ++ ifPasses (step .verdict) (spelt c (step .after) (rest (k + 1))) =
+              ap (spelt c (seen m s t kinds)) (rest-step s places own parents payloads fields i n k h)
+              ∙ spelt-bit c (here k) (rest (k + 1)) (seen m s t kinds) (ap (isBit c) (sym ef) ∙ eb) in
               record {
                 lines = step .lines;
                 wrote = like (ap (λ (x : Advance). x .lines) advances) (d .wrote);
@@ -188,6 +197,14 @@ module _ (s places own parents payloads fields : List ℕ) (i n : ℕ) where
                 stops =
                     λ why p. e
                     ∙ ap (λ (x : Verdict). onVerdict x (ahead (step .lines) (stream c (step .after) (rest (k + 1))))) (sym v ∙ p);
+                spells =
+                    λ p. texts
+                    ∙ ap (λ (x : Verdict). step .lines ++ ifPasses x (spelt c (step .after) (rest (k + 1)))) (sym v ∙ p)
+                    ∙ ap (λ (x : flow.State). step .lines ++ spelt c x (rest (k + 1))) (sym (a p));
+                spelt-all =
+                    λ why p. texts
+                    ∙ ap (λ (x : Verdict). step .lines ++ ifPasses x (spelt c (step .after) (rest (k + 1)))) (sym v ∙ p)
+                    ∙ append-nil (step .lines);
                 going =
                     λ p. going-by (r .state) held
                     (subst (λ (x : flow.State). Within x (k + 1) (t .shift + w)) (sym (a p))

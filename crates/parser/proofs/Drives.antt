@@ -5,17 +5,18 @@ use mathlib.Core.Path.{_≡_, refl, sym, ap, _∙_, subst}
 use Prim.Native.Nat.{ℕ, _+_, _≤_, _<_, _^_}
 use native.Mathlib.Omega.{arith}
 use lib.ListN.{length, replicate}
+use lib.Seq.{sets}
 use Rattle.definitions.specs.Bytes.{Text, text}
 use Rattle.definitions.specs.Sizes.{Annotated}
 use Rattle.definitions.specs.Blocks.{widths}
-use Rattle.definitions.specs.FieldParser.{Setting, lowerFields}
+use Rattle.definitions.specs.FieldParser.{Setting}
 use Rattle.definitions.specs.declared.Arrays.{Arrays}
 use Rattle.definitions.specs.declared.EndiannessValue.{EndiannessValue}
 use Rattle.definitions.specs.declared.Refusal.{Refusal}
 use Rattle.definitions.specs.declared.Verdict.{Verdict}
 use Rattle.text.specs.Put.{Put}
 use Rattle.text.proofs.Puts.{chain, still, like, kept}
-use Rattle.stream.specs.Stream.{Result, refuses, writes, ahead, rendered, fresh, stream}
+use Rattle.stream.specs.Stream.{Result, refuses, writes, ahead, fresh, stream}
 use Rattle.stream.specs.Stream as flow
 use Rattle.stream.proofs.Same.{streamed}
 use Rattle.bit_fields.specs.declared.KindAt.{KindAt}
@@ -29,7 +30,7 @@ use Rattle.emits.specs.Target.{settingAt, restAt, Fine}
 use Rattle.emits.proofs.Rests.{rest-end}
 use Rattle.emits.proofs.Fines.{sum-fine}
 use Rattle.parser.specs.declared.Lowered.{Lowered}
-use Rattle.parser.specs.Driver.{seen, Going, Turn, Parsed, doneBy, Lowers}
+use Rattle.parser.specs.Driver.{seen, spelt, Going, Turn, Parsed, doneBy, LowersTo, Lowers}
 use Rattle.parser.proofs.Others.{nothing-ahead}
 
 ahead-ahead : (s t : Text) (r : Result) → ahead s (ahead t r) ≡ ahead (s ++ t) r
@@ -58,12 +59,16 @@ module _ (s places own parents payloads fields : List ℕ) (i n : ℕ) (order : 
   abbrev left : ℕ → State → List Held → Result
   left k t kinds = stream c (seen m s t kinds) (rest k)
 
+  abbrev all-spelt : Text
+  all-spelt = spelt c fresh (rest 0)
+
   -- before field k: what is written, and then what is left
   pub record Run (out : Text) (p k : ℕ) (t : State) (kinds : List Held) : Type 0 where
     pub lines : Text
     pub wrote : Put out₀ at lines p out
     pub same : length out ≡ length out₀
     pub goes : stream c fresh (rest 0) ≡ ahead lines (left k t kinds)
+    pub spells : all-spelt ≡ lines ++ spelt c (seen m s t kinds) (rest k)
     pub going : Going s places own parents payloads fields i n m k t kinds
 
   abbrev none : List Held
@@ -75,6 +80,7 @@ module _ (s places own parents payloads fields : List ℕ) (i n : ℕ) (order : 
     wrote = still out₀ at room;
     same = refl;
     goes = ap (λ (x : flow.State). stream c x (rest 0)) (sym (new-view m s (text "payload") none)) ∙ nothing-ahead (left 0 newState none);
+    spells = ap (λ (x : flow.State). spelt c x (rest 0)) (sym (new-view m s (text "payload") none));
     going = record {
       few = omega arith;
       numbers = omega arith;
@@ -85,10 +91,14 @@ module _ (s places own parents payloads fields : List ℕ) (i n : ℕ) (order : 
   })
 
   abbrev Ends : Lowered → Text → Type 0
-  Ends r out = Lowers (rendered (lowerFields c (rest 0))) out₀ at r out
+  Ends r out = Lowers c (rest 0) out₀ at r out
 
-  ends : (r : Lowered) (out : Text) {x : Result} → stream c fresh (rest 0) ≡ x → Lowers x out₀ at r out → Ends r out
-  ends r out e d = subst (λ (x : Result). Lowers x out₀ at r out) (sym (streamed c (rest 0) ∙ e)) d
+  ends : (r : Lowered) (out : Text) {x : Result} → stream c fresh (rest 0) ≡ x → LowersTo x all-spelt out₀ at r out → Ends r out
+  ends r out e d = subst (λ (x : Result). LowersTo x all-spelt out₀ at r out) (sym (streamed c (rest 0) ∙ e)) d
+
+  -- the bytes where these are all lines that are written
+  bytes : {lines left : Text} {p : ℕ} → Put out₀ at lines p left → all-spelt ≡ lines → left ≡ sets out₀ at all-spelt
+  bytes p e = p .written ∙ ap (sets out₀ at) (sym e)
 
   module _ (out : Text) (p k : ℕ) (t : State) (kinds : List Held) (run : Run out p k t kinds) where
     -- field k comes next
@@ -99,25 +109,34 @@ module _ (s places own parents payloads fields : List ℕ) (i n : ℕ) (order : 
     run-room = omega (arith, run .same, run .wrote .room)
 
     -- `done`
-    finished : (v : Verdict) → left k t kinds ≡ onVerdict v (writes []) → Ends (doneBy v at p) out
-    finished Verdict.Pass e =
+    finished : (v : Verdict) → left k t kinds ≡ onVerdict v (writes []) → spelt c (seen m s t kinds) (rest k) ≡ [] → Ends (doneBy v at p) out
+    finished Verdict.Pass e z =
         ends (doneBy Verdict.Pass at p) out (run .goes ∙ ap (ahead (run .lines)) e) (record { verdict-is = refl; wrote = like (sym (append-nil (run .lines))) (run .wrote) })
-    finished (Verdict.Refuse why) e =
+    finished (Verdict.Refuse why) e z =
         ends (doneBy (Verdict.Refuse why) at p) out (run .goes ∙ ap (ahead (run .lines)) e)
-        (record { verdict-is = refl; at-is = refl; lines = run .lines; behind = p; wrote = run .wrote })
+        (record {
+          verdict-is = refl;
+          at-is = refl;
+          written = bytes (run .wrote) (run .spells ∙ ap (λ (x : Text). run .lines ++ x) z ∙ append-nil (run .lines));
+        })
 
     pub run-done : n ≤ k → (r : Lowered) → r ≡ doneBy (codeChecked t .verdict) at p → Ends r out
-    unfolding stream
+    unfolding stream spelt
     run-done h r e =
         subst (λ (x : Lowered). Ends x out) (sym e)
         (finished (codeChecked t .verdict)
-        (ap (stream c (seen m s t kinds)) (rest-end s places own parents payloads fields i n k h) ∙ code-flushes m s (text "payload") t kinds (writes [])))
+        (ap (stream c (seen m s t kinds)) (rest-end s places own parents payloads fields i n k h) ∙ code-flushes m s (text "payload") t kinds (writes []))
+        (ap (spelt c (seen m s t kinds)) (rest-end s places own parents payloads fields i n k h)))
 
     module _ {q : Step} {held : List Held} {next : Text} (d : Parsed s places own parents payloads fields i n order m k t kinds out p q held next) where
       pub run-stop : {why : Refusal} → q .verdict ≡ Verdict.Refuse why → Ends (record { verdict = Verdict.Refuse why; at = at }) next
       run-stop {why} e =
           ends (record { verdict = Verdict.Refuse why; at = at }) next (run .goes ∙ ap (ahead (run .lines)) (d .stops why e))
-          (record { verdict-is = refl; at-is = refl; lines = run .lines ++ d .lines; behind = q .at; wrote = chain (run .wrote) (d .wrote) })
+          (record {
+            verdict-is = refl;
+            at-is = refl;
+            written = bytes (chain (run .wrote) (d .wrote)) (run .spells ∙ ap (λ (x : Text). run .lines ++ x) (d .spelt-all why e));
+          })
 
       pub run-kept : length next ≡ length out₀
       run-kept = kept (d .wrote) ∙ run .same
@@ -128,5 +147,8 @@ module _ (s places own parents payloads fields : List ℕ) (i n : ℕ) (order : 
         wrote = chain (run .wrote) (d .wrote);
         same = kept (d .wrote) ∙ run .same;
         goes = run .goes ∙ ap (ahead (run .lines)) (d .passes e) ∙ ahead-ahead (run .lines) (d .lines) (left (k + 1) (q .state) held);
+        spells =
+            run .spells ∙ ap (λ (x : Text). run .lines ++ x) (d .spells e)
+            ∙ sym (append-assoc (run .lines) (d .lines) (spelt c (seen m s (q .state) held) (rest (k + 1))));
         going = d .going e;
       }

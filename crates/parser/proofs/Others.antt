@@ -1,14 +1,15 @@
 -- `parse` of a field that is no bit field: what it emits, behind what `check_code` comes to.
 -- Assumes nothing.
-use mathlib.Core.Bool.{false}
-use mathlib.Core.List.{List, []}
+use mathlib.Core.Bool.{Bool, true, false}
+use mathlib.Core.List.{List, [], _∷_, _++_}
 use mathlib.Core.Path.{_≡_, refl, sym, ap, _∙_, subst}
 use Prim.Native.Nat.{ℕ, _+_, _<_, _^_}
 use native.Mathlib.Omega.{arith}
 use lib.ListN.{length}
 use Rattle.definitions.specs.Bytes.{Text, text}
 use Rattle.definitions.specs.Sizes.{Annotated}
-use Rattle.definitions.specs.FieldParser.{Setting, Emit, sizeBacking, isBit}
+use Rattle.definitions.specs.Blocks.{Bit}
+use Rattle.definitions.specs.FieldParser.{Setting, Emit, sizeBacking, isBit, parseUnchecked}
 use Rattle.definitions.specs.declared.Arrays.{Arrays}
 use Rattle.definitions.specs.declared.EndiannessValue.{EndiannessValue}
 use Rattle.definitions.specs.declared.Part.{Part}
@@ -16,7 +17,7 @@ use Rattle.definitions.specs.declared.Refusal.{Refusal}
 use Rattle.definitions.specs.declared.Verdict.{Verdict}
 use Rattle.text.specs.Put.{Put}
 use Rattle.text.proofs.Puts.{still}
-use Rattle.stream.specs.Stream.{Result, refuses, writes, ahead, blockText, emitting, calm, stream}
+use Rattle.stream.specs.Stream.{Result, refuses, writes, ahead, blockText, flushing, emitting, calm, stream}
 use Rattle.stream.specs.Stream as flow
 use Rattle.stream.proofs.Steps.{stream-no}
 use Rattle.chunk_lines.specs.declared.Held.{Held}
@@ -33,12 +34,26 @@ use Rattle.emits.proofs.Rests.{rest-step}
 use Rattle.fields.specs.Parsed.{parsedAt}
 use Rattle.fields.proofs.Answers.{answer-agrees, answer-fits}
 use Rattle.parser.specs.declared.Lowered.{Lowered}
-use Rattle.parser.specs.Driver.{seen, Turn, emits, Emitted, from, Parsed}
+use Rattle.parser.specs.Driver.{seen, flushVerdict, ifPasses, emitText, spelt, Turn, emits, Emitted, from, speltFrom, Parsed}
 use Rattle.parser.proofs.BitFields.{within, sums, going-by}
 
 pub nothing-ahead : (r : Result) → r ≡ ahead [] r
 nothing-ahead (refuses why) = refl
 nothing-ahead (writes t) = refl
+
+spelt-no : (c : Setting) (a : Annotated) (later : List Annotated) (s : flow.State) → isBit c (a .field) ≡ false
+    → spelt c s (a ∷ later) ≡ ifPasses (flushVerdict (s .pending) (s .chunk)) (emitText (parseUnchecked c (s .shift) a later) (spelt c (calm s) later))
+unfolding spelt
+spelt-no c a later s e = rw (e, spelt)
+
+-- the verdict of `check_code`, from what it does to what follows
+verdict-of : (p : Bool) (bs : List Bit) (v : Verdict) → flushing p bs (writes []) ≡ onVerdict v (writes []) → flushVerdict p bs ≡ v
+verdict-of false bs Verdict.Pass e = refl
+verdict-of false bs (Verdict.Refuse why) e = absurd (let z : _≡_ {A = ℕ} 0 1 = cc in omega arith)
+verdict-of true [] Verdict.Pass e = refl
+verdict-of true [] (Verdict.Refuse why) e = absurd (let z : _≡_ {A = ℕ} 0 1 = cc in omega arith)
+verdict-of true (b ∷ bs) Verdict.Pass e = absurd (let z : _≡_ {A = ℕ} 0 1 = cc in omega arith)
+verdict-of true (b ∷ bs) (Verdict.Refuse why) e = ap (λ (x : Refusal). Verdict.Refuse x) (let z : Refusal.OpenChunk ≡ why = cc in z)
 
 module _ (s places own parents payloads fields : List ℕ) (i n : ℕ) where
   abbrev rest : ℕ → List Annotated
@@ -73,6 +88,8 @@ module _ (s places own parents payloads fields : List ℕ) (i n : ℕ) where
         wrote = put backing;
         passes = λ v next. ap (λ (x : Emit). emitting x next) (emits-as h);
         stops = λ why v next. absurd (let z : _≡_ {A = ℕ} 0 1 = cc in omega arith);
+        spells = λ v next. ap (λ (x : Emit). emitText x next) (emits-as h);
+        spelt-all = λ why v next. absurd (let z : _≡_ {A = ℕ} 0 1 = cc in omega arith);
       }
 
       pub emits-none : e ≡ EmitAt.Silent → (out : Text) (at : ℕ) → length out < 2 ^ 63
@@ -82,6 +99,8 @@ module _ (s places own parents payloads fields : List ℕ) (i n : ℕ) where
         wrote = still out at room;
         passes = λ v next. ap (λ (x : Emit). emitting x next) (emits-as h) ∙ nothing-ahead next;
         stops = λ why v next. absurd (let z : _≡_ {A = ℕ} 0 1 = cc in omega arith);
+        spells = λ v next. ap (λ (x : Emit). emitText x next) (emits-as h);
+        spelt-all = λ why v next. absurd (let z : _≡_ {A = ℕ} 0 1 = cc in omega arith);
       }
 
       pub emits-refusal : {why : Refusal} → e ≡ EmitAt.Refuses why → (out : Text) (at : ℕ) → length out < 2 ^ 63
@@ -91,6 +110,8 @@ module _ (s places own parents payloads fields : List ℕ) (i n : ℕ) where
         wrote = still out at room;
         passes = λ v next. absurd (let z : _≡_ {A = ℕ} 0 1 = cc in omega arith);
         stops = λ because v next. ap (λ (x : Emit). emitting x next) (emits-as h) ∙ ap refuses (let z : why ≡ because = cc in z);
+        spells = λ v next. absurd (let z : _≡_ {A = ℕ} 0 1 = cc in omega arith);
+        spelt-all = λ because v next. ap (λ (x : Emit). emitText x next) (emits-as h);
       }
 
     -- ---- behind `check_code`
@@ -110,6 +131,18 @@ module _ (s places own parents payloads fields : List ℕ) (i n : ℕ) where
           ∙ ap (λ (x : Verdict). onVerdict x (emitting (emits s places own parents payloads fields i n order m k (t .shift)) next))
           (ap (λ (x : Checked). x .verdict) (sym ec) ∙ e)
 
+      abbrev text-behind : Text
+      text-behind = spelt c (calm (seen m s t kinds)) (rest (k + 1))
+
+      texts : {v : Verdict} → q .verdict ≡ v → speltFrom s places own parents payloads fields i n order m k k t kinds
+          ≡ ifPasses v (emitText (emits s places own parents payloads fields i n order m k (t .shift)) text-behind)
+      texts e =
+          ap (spelt c (seen m s t kinds)) (rest-step s places own parents payloads fields i n k (turn .inside))
+          ∙ spelt-no c (here k) (rest (k + 1)) (seen m s t kinds) eb
+          ∙ ap (λ (x : Verdict). ifPasses x (emitText (emits s places own parents payloads fields i n order m k (t .shift)) text-behind))
+          (verdict-of (t .pending) (seen m s t kinds .chunk) (codeChecked t .verdict) (code-flushes m s (text "payload") t kinds (writes []))
+          ∙ ap (λ (x : Checked). x .verdict) (sym ec) ∙ e)
+
       calmed : q .verdict ≡ Verdict.Pass → seen m s (q .state) kinds ≡ calm (seen m s t kinds)
       calmed e = ap (λ (x : Checked). seen m s (x .state) kinds) ec ∙ code-calms m s (text "payload") t kinds (ap (λ (x : Checked). x .verdict) (sym ec) ∙ e)
 
@@ -121,6 +154,8 @@ module _ (s places own parents payloads fields : List ℕ) (i n : ℕ) where
         wrote = still out at room;
         passes = λ p. absurd (let z : _≡_ {A = ℕ} 0 1 = cc in omega arith);
         stops = λ because p. streams e ∙ ap refuses (let z : why ≡ because = cc in z);
+        spells = λ p. absurd (let z : _≡_ {A = ℕ} 0 1 = cc in omega arith);
+        spelt-all = λ because p. texts e;
         going = λ p. absurd (let z : _≡_ {A = ℕ} 0 1 = cc in omega arith);
       }
 
@@ -134,6 +169,10 @@ module _ (s places own parents payloads fields : List ℕ) (i n : ℕ) where
             λ p. streams e ∙ d .passes p next
             ∙ ap (λ (x : flow.State). ahead (d .lines) (stream c x (rest (k + 1)))) (sym (calmed e));
         stops = λ why p. streams e ∙ d .stops why p next;
+        spells =
+            λ p. texts e ∙ d .spells p text-behind
+            ∙ ap (λ (x : flow.State). d .lines ++ spelt c x (rest (k + 1))) (sym (calmed e));
+        spelt-all = λ why p. texts e ∙ d .spelt-all why p text-behind;
         going =
             λ p. going-by s places own parents payloads fields i n order m k (q .state) kinds
             (subst (λ (x : flow.State). Within x (k + 1) (t .shift)) (sym (calmed e))

@@ -15,8 +15,8 @@ ghost use mathlib.Core.Path.{_≡_};
 ghost use mathlib.Core.Bool.{false};
 ghost use Prim.Native.Nat.{_+_, _≤_, _<_, _^_};
 ghost use Rattle.definitions.specs.Bytes.{text};
-ghost use Rattle.definitions.specs.FieldParser.{isBit, lowerFields};
-ghost use Rattle.stream.specs.Stream.{widthOf, rendered};
+ghost use Rattle.definitions.specs.FieldParser.{isBit};
+ghost use Rattle.stream.specs.Stream.{widthOf};
 ghost use Rattle.chunks.specs.Steps.{grownState, codeChecked, Closing, ChunkClosed};
 ghost use Rattle.emits.specs.Target.{settingAt, restAt, fieldIn, annotatedAt, Fine};
 ghost use Rattle.parser.specs.Driver.{Named, laterAt, Emitted, OtherParsed, doneBy, Lowers};
@@ -238,7 +238,7 @@ fn parse<'a>(
 ) -> Lowered
     requires { ⌜ (n ≤ 64) × Fine (now rec) (now places) (now own) (now parents) (now payloads) (now fields) i n ⌝ }
     requires { ⌜ Named (now rec) (now fields) i n (now starts) (now ends) conds ⌝ }
-    ensures { λ r. ⌜ Lowers (rendered (lowerFields (settingAt (now (rec .entry)) (now (places .entry)) (now (own .entry)) (now (parents .entry)) (now (payloads .entry)) (now (fields .entry)) i n order m) (restAt (now (rec .entry)) (now (places .entry)) (now (own .entry)) (now (parents .entry)) (now (payloads .entry)) (now (fields .entry)) i n 0))) (now (out .entry)) at r (now (out .exit)) ⌝ }
+    ensures { λ r. ⌜ Lowers (settingAt (now (rec .entry)) (now (places .entry)) (now (own .entry)) (now (parents .entry)) (now (payloads .entry)) (now (fields .entry)) i n order m) (restAt (now (rec .entry)) (now (places .entry)) (now (own .entry)) (now (parents .entry)) (now (payloads .entry)) (now (fields .entry)) i n 0) (now (out .entry)) at r (now (out .exit)) ⌝ }
 {
     let none = KindAt::Reserved;
     let mut kinds = [Held { kind: none }; 64];
@@ -345,7 +345,7 @@ pub fn lower_target(
     n: usize,
 ) -> Lowered
     requires { ⌜ (n ≤ 64) × Fine (now rec) (now places) (now own) (now parents) (now payloads) (now fields) i n ⌝ }
-    ensures { λ r. ⌜ Lowers (rendered (lowerFields (settingAt (now (rec .entry)) (now (places .entry)) (now (own .entry)) (now (parents .entry)) (now (payloads .entry)) (now (fields .entry)) i n order m) (restAt (now (rec .entry)) (now (places .entry)) (now (own .entry)) (now (parents .entry)) (now (payloads .entry)) (now (fields .entry)) i n 0))) (now (out .entry)) at r (now (out .exit)) ⌝ }
+    ensures { λ r. ⌜ Lowers (settingAt (now (rec .entry)) (now (places .entry)) (now (own .entry)) (now (parents .entry)) (now (payloads .entry)) (now (fields .entry)) i n order m) (restAt (now (rec .entry)) (now (places .entry)) (now (own .entry)) (now (parents .entry)) (now (payloads .entry)) (now (fields .entry)) i n 0) (now (out .entry)) at r (now (out .exit)) ⌝ }
 {
     let mut starts = [0usize; 64];
     let mut ends = [0usize; 64];
