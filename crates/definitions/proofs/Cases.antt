@@ -42,7 +42,7 @@ scalar id width = text "field=scalar\nid=" ++ (text id ++ (text "\nwidth=" ++ (t
 payload : Text
 payload = plain "payload\nmod=-"
 
--- a field `c` of 8 bits, and a scalar of 8 bits that is there where it is 1
+-- a scalar of 8 bits that is there where `c` is 1; a record need not have a field `c`
 optional : Text
 optional = text "field=scalar\nid=o\nwidth=8\nif=c\nis=1\n"
 
