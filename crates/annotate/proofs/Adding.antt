@@ -8,10 +8,10 @@ use lib.ListN.{getD}
 use Rattle.definitions.specs.Bytes.{Text, pick}
 use Rattle.definitions.specs.Sizes.{Row, isPayload, addSize, outerSize, annotateField, annotateFields, paddedBy}
 use Rattle.definitions.specs.Refusals.{largeSize, tooLarge, badMaybe, staticBits}
-use Rattle.definitions.specs.Tables.{fieldHere, fieldsFrom}
 use Rattle.definitions.specs.declared.Field.{Field}
 use Rattle.definitions.specs.declared.MaybeNumber.{MaybeNumber}
 use Rattle.definitions.specs.declared.Size.{Size}
+use Rattle.tables.specs.Tables.{fieldHere, fieldsFrom}
 use Rattle.bits.specs.Capped.{cap, capped, cappedNumber}
 use Rattle.bits.proofs.Caps.{cap-sums, cap-again, capped-sum, capped-again, capped-bits, capped-large, capped-outer, capped-padded}
 use Rattle.references.proofs.Turns.{fields-start, fields-end, fields-more}
@@ -33,7 +33,8 @@ pub sum-outer : (sum size : Size) (p : MaybeNumber) {o : Size} → o ≡ outerSi
 sum-outer sum size p e h = h ∙ ap (λ (o : Size). capped (addSize sum o)) e
 
 module _ (t : FieldSums) (b : Bool) (z : Size) (p : MaybeNumber) where
-  pub field-added : {large : Bool} → large ≡ (t .large || (largeSize z || badMaybe tooLarge p)) → {sum : Size} → sum ≡ pick b (t .sum) (capped (addSize (t .sum) (outerSize z p)))
+  pub field-added : {large : Bool} → large ≡ (t .large || (largeSize z || badMaybe tooLarge p))
+      → {sum : Size} → sum ≡ pick b (t .sum) (capped (addSize (t .sum) (outerSize z p)))
       → {payload : Size} → payload ≡ pick b (capped z) (t .payload) → {bits : ℕ} → bits ≡ cap (t .bits + staticBits z)
       → _≡_ {A = FieldSums} (record { large = large; sum = sum; payload = payload; bits = bits }) (addField t b z p)
   field-added el es ep eb = rw (el, es, ep, eb)
@@ -42,7 +43,8 @@ module _ (t : FieldSums) (b : Bool) (z : Size) (p : MaybeNumber) where
   add-capped : addField t b (capped z) (cappedNumber p) ≡ addField t b z p
   add-capped =
       field-added
-      (ap (λ (l : Bool). t .large || (l || badMaybe tooLarge (cappedNumber p))) (capped-large z) ∙ ap (λ (l : Bool). t .large || (largeSize z || l)) (capped-padded p))
+      (ap (λ (l : Bool). t .large || (l || badMaybe tooLarge (cappedNumber p))) (capped-large z)
+      ∙ ap (λ (l : Bool). t .large || (largeSize z || l)) (capped-padded p))
       (ap (λ (o : Size). pick b (t .sum) (capped (addSize (t .sum) o))) (capped-outer z p) ∙ ap (pick b (t .sum)) (capped-sum (t .sum) (outerSize z p)))
       (ap (λ (z : Size). pick b z (t .payload)) (capped-again z))
       (ap (λ (n : ℕ). cap (t .bits + n)) (capped-bits z) ∙ sum-capped (t .bits) (staticBits z))
@@ -52,30 +54,34 @@ module _ (t : FieldSums) (b : Bool) (z : Size) (p : MaybeNumber) where
 
 -- ---- the walk
 
-module _ (s : Text) (rows : List Row) (fields : List ℕ) (j n : ℕ) where
-  pub next-added : (k : ℕ) (t : FieldSums) {f : Field} → f ≡ fieldHere s (getD fields (j + k) 0) → {z : Size} → z ≡ capped (annotateField s rows (fieldsFrom s fields j n) f)
-      → {p : MaybeNumber} → p ≡ cappedNumber (paddedBy (fieldsFrom s fields (j + (k + 1)) (n - (k + 1)))) → {b : Bool} → b ≡ isPayload (f .desc)
-      → {u : FieldSums} → u ≡ addField t b z p → u ≡ nextField s rows fields j n k t
+module _ (s : Text) (rows : List Row) (values fields : List ℕ) (j n : ℕ) where
+  pub next-added : (k : ℕ) (t : FieldSums) {f : Field} → f ≡ fieldHere values (getD fields (j + k) 0)
+      → {z : Size} → z ≡ capped (annotateField s rows (fieldsFrom values fields j n) f)
+      → {p : MaybeNumber} → p ≡ cappedNumber (paddedBy (fieldsFrom values fields (j + (k + 1)) (n - (k + 1)))) → {b : Bool} → b ≡ isPayload (f .desc)
+      → {u : FieldSums} → u ≡ addField t b z p → u ≡ nextField s rows values fields j n k t
   unfolding nextField
   next-added k t {f} ef {z} ez {p} ep {b} eb {u} eu =
       eu ∙ ap (λ (b : Bool). addField t b z p) eb ∙ ap (λ (z : Size). addField t (isPayload (f .desc)) z p) ez
-      ∙ ap (addField t (isPayload (f .desc)) (capped (annotateField s rows (fieldsFrom s fields j n) f))) ep
-      ∙ add-capped t (isPayload (f .desc)) (annotateField s rows (fieldsFrom s fields j n) f) (paddedBy (fieldsFrom s fields (j + (k + 1)) (n - (k + 1))))
-      ∙ ap (λ (f : Field). addField t (isPayload (f .desc)) (annotateField s rows (fieldsFrom s fields j n) f) (paddedBy (fieldsFrom s fields (j + (k + 1)) (n - (k + 1))))) ef
+      ∙ ap (addField t (isPayload (f .desc)) (capped (annotateField s rows (fieldsFrom values fields j n) f))) ep
+      ∙ add-capped t (isPayload (f .desc)) (annotateField s rows (fieldsFrom values fields j n) f)
+      (paddedBy (fieldsFrom values fields (j + (k + 1)) (n - (k + 1))))
+      ∙ ap (λ (f : Field). addField t (isPayload (f .desc)) (annotateField s rows (fieldsFrom values fields j n) f)
+      (paddedBy (fieldsFrom values fields (j + (k + 1)) (n - (k + 1))))) ef
 
-  pub walk-start : sumFields noFields (annotateFields s rows (fieldsFrom s fields j n) (fieldsFrom s fields (j + 0) (n - 0)))
-      ≡ sumFields noFields (annotateFields s rows (fieldsFrom s fields j n) (fieldsFrom s fields j n))
-  walk-start = ap (λ (fs : List Field). sumFields noFields (annotateFields s rows (fieldsFrom s fields j n) fs)) (fields-start s fields j n)
+  pub walk-start : sumFields noFields (annotateFields s rows (fieldsFrom values fields j n) (fieldsFrom values fields (j + 0) (n - 0)))
+      ≡ sumFields noFields (annotateFields s rows (fieldsFrom values fields j n) (fieldsFrom values fields j n))
+  walk-start = ap (λ (fs : List Field). sumFields noFields (annotateFields s rows (fieldsFrom values fields j n) fs)) (fields-start values fields j n)
 
-  module _ (k : ℕ) (t : FieldSums) {e : FieldSums} (inv : sumFields t (annotateFields s rows (fieldsFrom s fields j n) (fieldsFrom s fields (j + k) (n - k))) ≡ e) where
+  module _ (k : ℕ) (t : FieldSums) {e : FieldSums}
+      (inv : sumFields t (annotateFields s rows (fieldsFrom values fields j n) (fieldsFrom values fields (j + k) (n - k))) ≡ e) where
     pub walk-end : n ≤ k → t ≡ e
     unfolding sumFields annotateFields
     walk-end h =
-        ap (λ (fs : List Field). sumFields t (annotateFields s rows (fieldsFrom s fields j n) fs)) (sym (fields-end s fields j n k h)) ∙ inv
+        ap (λ (fs : List Field). sumFields t (annotateFields s rows (fieldsFrom values fields j n) fs)) (sym (fields-end values fields j n k h)) ∙ inv
 
-    pub walk-turn : k < n → {u : FieldSums} → u ≡ nextField s rows fields j n k t
-        → sumFields u (annotateFields s rows (fieldsFrom s fields j n) (fieldsFrom s fields (j + (k + 1)) (n - (k + 1)))) ≡ e
+    pub walk-turn : k < n → {u : FieldSums} → u ≡ nextField s rows values fields j n k t
+        → sumFields u (annotateFields s rows (fieldsFrom values fields j n) (fieldsFrom values fields (j + (k + 1)) (n - (k + 1)))) ≡ e
     unfolding sumFields annotateFields nextField
     walk-turn h {u} eu =
-        ap (λ (u : FieldSums). sumFields u (annotateFields s rows (fieldsFrom s fields j n) (fieldsFrom s fields (j + (k + 1)) (n - (k + 1))))) eu
-        ∙ ap (λ (fs : List Field). sumFields t (annotateFields s rows (fieldsFrom s fields j n) fs)) (sym (fields-more s fields j n k h)) ∙ inv
+        ap (λ (u : FieldSums). sumFields u (annotateFields s rows (fieldsFrom values fields j n) (fieldsFrom values fields (j + (k + 1)) (n - (k + 1))))) eu
+        ∙ ap (λ (fs : List Field). sumFields t (annotateFields s rows (fieldsFrom values fields j n) fs)) (sym (fields-more values fields j n k h)) ∙ inv

@@ -6,23 +6,20 @@ use mathlib.Core.List.{List}
 use mathlib.Core.Path.{_≡_, refl, sym, ap, _∙_}
 use native.Mathlib.Omega.{arith}
 use lib.ListN.{getD}
-use Rattle.definitions.specs.Bytes.{Text, text}
-use Rattle.definitions.specs.Record.{keyAt}
+use Rattle.definitions.specs.Bytes.{Text}
 use Rattle.definitions.specs.Sizes.{Row, mulSize, given, hasArraySize, totalOf, arrayBits, descSize, annotateField, paddingBits, paddedBy}
 use Rattle.definitions.specs.Refusals.{largeSize}
-use Rattle.definitions.specs.Tables.{fieldHere, fieldsFrom}
 use Rattle.definitions.specs.declared.Cond.{Cond}
 use Rattle.definitions.specs.declared.Field.{Field}
 use Rattle.definitions.specs.declared.FieldDesc.{FieldDesc}
-use Rattle.definitions.specs.declared.Found.{Found}
 use Rattle.definitions.specs.declared.MaybeNumber.{MaybeNumber}
 use Rattle.definitions.specs.declared.MaybePart.{MaybePart}
 use Rattle.definitions.specs.declared.Part.{Part}
 use Rattle.definitions.specs.declared.Size.{Size}
+use Rattle.tables.specs.Tables.{fieldHere, fieldsFrom}
 use Rattle.bits.specs.Capped.{cap, capped, cappedNumber}
 use Rattle.bits.proofs.Caps.{cap-under, capped-fine}
 use Rattle.references.proofs.Turns.{fields-end, fields-more}
-use Rattle.references.proofs.KindLines.{no-padding}
 
 pub given-capped : {a : Bool} (b : Bool) {r : Size} → a ≡ b → r ≡ given a → r ≡ capped (given b)
 given-capped {a} b e h = h ∙ ap given e ∙ by b
@@ -82,23 +79,15 @@ padding-as e h = h ∙ ap (λ (d : FieldDesc). cappedNumber (paddingBits d)) (sy
 pub padding-some : {d : FieldDesc} {size x : ℕ} → d ≡ FieldDesc.Padding size → x ≡ cap (8 * size) → MaybeNumber.Some x ≡ cappedNumber (paddingBits d)
 padding-some e h = ap (λ (n : ℕ). MaybeNumber.Some n) h ∙ ap (λ (d : FieldDesc). cappedNumber (paddingBits d)) (sym e)
 
-module _ (s : Text) (fields : List ℕ) (j n k : ℕ) where
-  pub padded-none : n ≤ k + 1 → MaybeNumber.None ≡ cappedNumber (paddedBy (fieldsFrom s fields (j + (k + 1)) (n - (k + 1))))
-  padded-none h = ap (λ (fs : List Field). cappedNumber (paddedBy fs)) (sym (fields-end s fields j n (k + 1) h))
+module _ (values fields : List ℕ) (j n k : ℕ) where
+  pub padded-none : n ≤ k + 1 → MaybeNumber.None ≡ cappedNumber (paddedBy (fieldsFrom values fields (j + (k + 1)) (n - (k + 1))))
+  padded-none h = ap (λ (fs : List Field). cappedNumber (paddedBy fs)) (sym (fields-end values fields j n (k + 1) h))
 
-  pub padded-past : n ≤ k → MaybeNumber.None ≡ cappedNumber (paddedBy (fieldsFrom s fields (j + (k + 1)) (n - (k + 1))))
+  pub padded-past : n ≤ k → MaybeNumber.None ≡ cappedNumber (paddedBy (fieldsFrom values fields (j + (k + 1)) (n - (k + 1))))
   padded-past h = padded-none (omega arith)
 
-  module _ (h : k + 1 < n) {at : ℕ} (ea : at ≡ getD fields (j + (k + 1)) 0) where
-    padded-here : {r : MaybeNumber} → r ≡ cappedNumber (paddingBits (fieldHere s at .desc)) → r ≡ cappedNumber (paddedBy (fieldsFrom s fields (j + (k + 1)) (n - (k + 1))))
-    padded-here er =
-        er ∙ ap (λ (at : ℕ). cappedNumber (paddingBits (fieldHere s at .desc))) ea
-        ∙ ap (λ (fs : List Field). cappedNumber (paddedBy fs)) (sym (fields-more s fields j n (k + 1) h))
-
-    pub padded-other : {q : Found} → q ≡ keyAt s at (text "field=padding\n") → q ≡ Found.Nothing
-        → MaybeNumber.None ≡ cappedNumber (paddedBy (fieldsFrom s fields (j + (k + 1)) (n - (k + 1))))
-    padded-other eq h = padded-here (ap cappedNumber (sym (no-padding s at (sym eq ∙ h))))
-
-    pub padded-next : {f : Field} → f ≡ fieldHere s at → {r : MaybeNumber} → r ≡ cappedNumber (paddingBits (f .desc))
-        → r ≡ cappedNumber (paddedBy (fieldsFrom s fields (j + (k + 1)) (n - (k + 1))))
-    padded-next ef er = padded-here (er ∙ ap (λ (f : Field). cappedNumber (paddingBits (f .desc))) ef)
+  pub padded-next : k + 1 < n → {f : Field} → f ≡ fieldHere values (getD fields (j + (k + 1)) 0)
+      → {r : MaybeNumber} → r ≡ cappedNumber (paddingBits (f .desc)) → r ≡ cappedNumber (paddedBy (fieldsFrom values fields (j + (k + 1)) (n - (k + 1))))
+  padded-next h ef er =
+      er ∙ ap (λ (f : Field). cappedNumber (paddingBits (f .desc))) ef
+      ∙ ap (λ (fs : List Field). cappedNumber (paddedBy fs)) (sym (fields-more values fields j n (k + 1) h))

@@ -36,8 +36,10 @@ sum-capped z (a ∷ xs) =
     (sum-capped (addSize z (outerSize (a .fieldSize) (a .paddedSize))) xs)
   where
     by : (b : Bool) → capped (fieldsSize (capped z) xs) ≡ capped (fieldsSize z xs)
-        → capped (fieldsSize (capped (addSize (capped z) (outerSize (a .fieldSize) (a .paddedSize)))) xs) ≡ capped (fieldsSize (addSize (capped z) (outerSize (a .fieldSize) (a .paddedSize))) xs)
-        → capped (fieldsSize (capped (addSize z (outerSize (a .fieldSize) (a .paddedSize)))) xs) ≡ capped (fieldsSize (addSize z (outerSize (a .fieldSize) (a .paddedSize))) xs)
+        → capped (fieldsSize (capped (addSize (capped z) (outerSize (a .fieldSize) (a .paddedSize)))) xs)
+        ≡ capped (fieldsSize (addSize (capped z) (outerSize (a .fieldSize) (a .paddedSize))) xs)
+        → capped (fieldsSize (capped (addSize z (outerSize (a .fieldSize) (a .paddedSize)))) xs)
+        ≡ capped (fieldsSize (addSize z (outerSize (a .fieldSize) (a .paddedSize))) xs)
         → capped (fieldsSize (pick b (capped z) (addSize (capped z) (outerSize (a .fieldSize) (a .paddedSize)))) xs)
         ≡ capped (fieldsSize (pick b z (addSize z (outerSize (a .fieldSize) (a .paddedSize)))) xs)
     by true same left right = same

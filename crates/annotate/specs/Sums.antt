@@ -8,9 +8,9 @@ use lib.ListN.{getD}
 use Rattle.definitions.specs.Bytes.{Text, pick}
 use Rattle.definitions.specs.Sizes.{Row, Annotated, isPayload, addSize, outerSize, annotateField, paddedBy}
 use Rattle.definitions.specs.Refusals.{largeSize, tooLarge, badMaybe, staticBits}
-use Rattle.definitions.specs.Tables.{fieldHere, fieldsFrom}
 use Rattle.definitions.specs.declared.MaybeNumber.{MaybeNumber}
 use Rattle.definitions.specs.declared.Size.{Size}
+use Rattle.tables.specs.Tables.{fieldHere, fieldsFrom}
 use Rattle.bits.specs.Capped.{cap, capped}
 use Rattle.annotate.specs.declared.FieldSums.{FieldSums}
 
@@ -28,12 +28,12 @@ addField t payload size padded =
       bits = cap (t .bits + staticBits size);
     }
 
--- field k of the n that the table has from j on
-unfoldable pub nextField : Text → List Row → List ℕ → ℕ → ℕ → ℕ → FieldSums → FieldSums
-nextField s rows fields j n k t =
-    addField t (isPayload (fieldHere s (getD fields (j + k) 0) .desc))
-    (annotateField s rows (fieldsFrom s fields j n) (fieldHere s (getD fields (j + k) 0)))
-    (paddedBy (fieldsFrom s fields (j + (k + 1)) (n - (k + 1))))
+-- field k of the n whose places the table of 2,048 has from j on
+unfoldable pub nextField : Text → List Row → List ℕ → List ℕ → ℕ → ℕ → ℕ → FieldSums → FieldSums
+nextField s rows values fields j n k t =
+    addField t (isPayload (fieldHere values (getD fields (j + k) 0) .desc))
+    (annotateField s rows (fieldsFrom values fields j n) (fieldHere values (getD fields (j + k) 0)))
+    (paddedBy (fieldsFrom values fields (j + (k + 1)) (n - (k + 1))))
 
 unfoldable pub sumFields : FieldSums → List Annotated → FieldSums
 sumFields t [] = t

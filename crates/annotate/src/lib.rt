@@ -1,10 +1,9 @@
 // `annotate_field` and the padded sizes (analyzer.rs), and what the fields of one declaration come to, in one pass over them. The declaration has the
-// index i: names are looked up in the i rows before, its fields are the n that the table has from 64 i on. What is over the limit is capped.
+// index i: names are looked up in the i rows before, its fields are the n whose places `fields` has from 64 i on. What is over the limit is capped.
 
 use definitions::Cond;
 use definitions::Field;
 use definitions::FieldDesc;
-use definitions::Found;
 use definitions::MaybeNumber;
 use definitions::MaybePart;
 use definitions::Part;
@@ -13,39 +12,45 @@ ghost use mathlib.Core.Path.{_≡_};
 ghost use mathlib.Core.Bool.{false, _||_};
 ghost use Prim.Native.Nat.{_+_, _*_, _-_};
 ghost use Rattle.definitions.specs.Bytes.{pick};
-ghost use Rattle.definitions.specs.Sizes.{arrayBits, descSize, annotateField, annotateFields, paddingBits, paddedBy, isPayload, outerSize, addSize};
+ghost use Rattle.definitions.specs.Sizes.{arrayBits, descSize, annotateField, annotateFields, paddingBits, paddedBy};
+ghost use Rattle.definitions.specs.Sizes.{isPayload, outerSize, addSize};
 ghost use Rattle.definitions.specs.Refusals.{largeSize, tooLarge, badMaybe};
-ghost use Rattle.definitions.specs.Tables.{fieldsFrom, rowsFrom};
+ghost use Rattle.tables.specs.Tables.{Tables, tablesOf, rowsOf, fieldsOf, fieldsFrom};
 ghost use Rattle.bits.specs.Capped.{capped, cappedNumber};
 ghost use Rattle.annotate.specs.Sums.{addField, nextField, sumFields, noFields};
 
 // ---- the size of a field
 
+// What the size of an array depends on.
+pub struct ArrayParts {
+    pub id: Part,
+    pub width: MaybeNumber,
+    pub type_id: MaybePart,
+    pub size: MaybeNumber,
+}
+
 fn array_bits(
     rec: &[u8],
-    places: &[usize],
-    own: &[u64],
-    parents: &[u64],
-    payloads: &[u64],
+    rows: &[u64],
+    values: &[u64],
     fields: &[usize],
     i: usize,
     n: usize,
-    id: Part,
-    width: MaybeNumber,
-    type_id: MaybePart,
-    size: MaybeNumber,
+    array: ArrayParts,
 ) -> Size
-    ensures { λ r. ⌜ r ≡ capped (arrayBits (now (rec .entry)) (rowsFrom (now (rec .entry)) (now (places .entry)) (now (own .entry)) (now (parents .entry)) (now (payloads .entry)) 0 i) (fieldsFrom (now (rec .entry)) (now (fields .entry)) (i * 64) n) id width «type_id» size) ⌝ }
+    ensures { λ r. let t : Tables = tablesOf (now (rec .entry)) (now (rows .entry)) (now (values .entry)) (now (fields .entry)) in
+        ⌜ r ≡ capped (arrayBits (t .source) (rowsOf t i) (fieldsOf t i n) (array .id) (array .width) (array .«type_id») (array .size)) ⌝ }
 {
+    let id = array.id;
+    let width = array.width;
+    let type_id = array.type_id;
+    let size = array.size;
     match size {
-        MaybeNumber::None => bits::given(references::has_array_size(rec, fields, i, n, id)),
+        MaybeNumber::None => bits::given(references::has_array_size(rec, values, fields, i, n, id)),
         MaybeNumber::Some(count) => match width {
             MaybeNumber::Some(w) => Size::Static(bits::product(count, w)),
             MaybeNumber::None => match type_id {
-                MaybePart::Some(name) => bits::mul_size(
-                    rows::total_of(rec, places, own, parents, payloads, i, name),
-                    count,
-                ),
+                MaybePart::Some(name) => bits::mul_size(rows::total_of(rec, rows, i, name), count),
                 MaybePart::None => Size::Unknown,
             },
         },
@@ -55,16 +60,15 @@ fn array_bits(
 // A field without a condition.
 fn desc_size(
     rec: &[u8],
-    places: &[usize],
-    own: &[u64],
-    parents: &[u64],
-    payloads: &[u64],
+    rows: &[u64],
+    values: &[u64],
     fields: &[usize],
     i: usize,
     n: usize,
     desc: FieldDesc,
 ) -> Size
-    ensures { λ r. ⌜ r ≡ capped (descSize (now (rec .entry)) (rowsFrom (now (rec .entry)) (now (places .entry)) (now (own .entry)) (now (parents .entry)) (now (payloads .entry)) 0 i) (fieldsFrom (now (rec .entry)) (now (fields .entry)) (i * 64) n) desc) ⌝ }
+    ensures { λ r. let t : Tables = tablesOf (now (rec .entry)) (now (rows .entry)) (now (values .entry)) (now (fields .entry)) in
+        ⌜ r ≡ capped (descSize (t .source) (rowsOf t i) (fieldsOf t i n) desc) ⌝ }
 {
     match desc {
         FieldDesc::Checksum { field_id: _ } => Size::Static(0),
@@ -72,9 +76,10 @@ fn desc_size(
         FieldDesc::Size { field_id: _, width } => Size::Static(bits::cap(width)),
         FieldDesc::Count { field_id: _, width } => Size::Static(bits::cap(width)),
         FieldDesc::ElementSize { field_id: _, width } => Size::Static(bits::cap(width)),
-        FieldDesc::Body => bits::given(references::has_payload_size(rec, fields, i, n)),
+        FieldDesc::Body => bits::given(references::has_payload_size(rec, values, fields, i, n)),
         FieldDesc::Payload { size_modifier: _ } => bits::given(references::has_payload_size(
             rec,
+            values,
             fields,
             i,
             n,
@@ -82,10 +87,7 @@ fn desc_size(
         FieldDesc::FixedScalar { width, value: _ } => Size::Static(bits::cap(width)),
         FieldDesc::FixedEnum { enum_id, tag_id: _ } => bits::capped(rows::total_of(
             rec,
-            places,
-            own,
-            parents,
-            payloads,
+            rows,
             i,
             enum_id,
         )),
@@ -98,26 +100,23 @@ fn desc_size(
             size,
         } => array_bits(
             rec,
-            places,
-            own,
-            parents,
-            payloads,
+            rows,
+            values,
             fields,
             i,
             n,
-            id,
-            width,
-            type_id,
-            size,
+            ArrayParts {
+                id,
+                width,
+                type_id,
+                size,
+            },
         ),
         FieldDesc::Scalar { id: _, width } => Size::Static(bits::cap(width)),
         FieldDesc::Flag { id: _ } => Size::Static(1),
         FieldDesc::Typedef { id: _, type_id } => bits::capped(rows::total_of(
             rec,
-            places,
-            own,
-            parents,
-            payloads,
+            rows,
             i,
             type_id,
         )),
@@ -127,21 +126,20 @@ fn desc_size(
 // `annotate_field`: an optional field is dynamic.
 pub fn annotate_field(
     rec: &[u8],
-    places: &[usize],
-    own: &[u64],
-    parents: &[u64],
-    payloads: &[u64],
+    rows: &[u64],
+    values: &[u64],
     fields: &[usize],
     i: usize,
     n: usize,
     f: Field,
 ) -> Size
-    ensures { λ r. ⌜ r ≡ capped (annotateField (now (rec .entry)) (rowsFrom (now (rec .entry)) (now (places .entry)) (now (own .entry)) (now (parents .entry)) (now (payloads .entry)) 0 i) (fieldsFrom (now (rec .entry)) (now (fields .entry)) (i * 64) n) f) ⌝ }
+    ensures { λ r. let t : Tables = tablesOf (now (rec .entry)) (now (rows .entry)) (now (values .entry)) (now (fields .entry)) in
+        ⌜ r ≡ capped (annotateField (t .source) (rowsOf t i) (fieldsOf t i n) f) ⌝ }
 {
     let cond = f.cond;
     let desc = f.desc;
     match cond {
-        Cond::None => desc_size(rec, places, own, parents, payloads, fields, i, n, desc),
+        Cond::None => desc_size(rec, rows, values, fields, i, n, desc),
         Cond::Some { id: _, value: _ } => Size::Dynamic,
     }
 }
@@ -149,19 +147,19 @@ pub fn annotate_field(
 // The same where the size is known not to be over the limit, as behind refusal 7.
 pub fn field_size(
     rec: &[u8],
-    places: &[usize],
-    own: &[u64],
-    parents: &[u64],
-    payloads: &[u64],
+    rows: &[u64],
+    values: &[u64],
     fields: &[usize],
     i: usize,
     n: usize,
     f: Field,
 ) -> Size
-    requires { ⌜ largeSize (annotateField (now rec) (rowsFrom (now rec) (now places) (now own) (now parents) (now payloads) 0 i) (fieldsFrom (now rec) (now fields) (i * 64) n) f) ≡ false ⌝ }
-    ensures { λ r. ⌜ r ≡ annotateField (now (rec .entry)) (rowsFrom (now (rec .entry)) (now (places .entry)) (now (own .entry)) (now (parents .entry)) (now (payloads .entry)) 0 i) (fieldsFrom (now (rec .entry)) (now (fields .entry)) (i * 64) n) f ⌝ }
+    requires { let t : Tables = tablesOf (now rec) (now rows) (now values) (now fields) in
+        ⌜ largeSize (annotateField (t .source) (rowsOf t i) (fieldsOf t i n) f) ≡ false ⌝ }
+    ensures { λ r. let t : Tables = tablesOf (now (rec .entry)) (now (rows .entry)) (now (values .entry)) (now (fields .entry)) in
+        ⌜ r ≡ annotateField (t .source) (rowsOf t i) (fieldsOf t i n) f ⌝ }
 {
-    annotate_field(rec, places, own, parents, payloads, fields, i, n, f)
+    annotate_field(rec, rows, values, fields, i, n, f)
 }
 
 // ---- the padded size
@@ -205,9 +203,9 @@ fn padding_bits(desc: FieldDesc) -> MaybeNumber
     }
 }
 
-// `padded_size` of field k: what the field behind it sets. Where that is no padding, no more of it is read than its kind.
-pub fn padded_size(rec: &[u8], fields: &[usize], i: usize, n: usize, k: usize) -> MaybeNumber
-    ensures { λ r. ⌜ r ≡ cappedNumber (paddedBy (fieldsFrom (now (rec .entry)) (now (fields .entry)) (i * 64 + (k + 1)) (n - (k + 1)))) ⌝ }
+// `padded_size` of field k: what the field behind it sets.
+pub fn padded_size(values: &[u64], fields: &[usize], i: usize, n: usize, k: usize) -> MaybeNumber
+    ensures { λ r. ⌜ r ≡ cappedNumber (paddedBy (fieldsFrom (now (values .entry)) (now (fields .entry)) (i * 64 + (k + 1)) (n - (k + 1)))) ⌝ }
 {
     if n <= k {
         return MaybeNumber::None;
@@ -216,11 +214,7 @@ pub fn padded_size(rec: &[u8], fields: &[usize], i: usize, n: usize, k: usize) -
     if n <= next {
         return MaybeNumber::None;
     }
-    let at = references::place_in(fields, i, next);
-    let Found::At(_) = names::key_at(rec, at, b"field=padding\n") else {
-        return MaybeNumber::None;
-    };
-    let f = places::field_here(rec, at);
+    let f = references::field_in(values, fields, i, next);
     let desc = f.desc;
     padding_bits(desc)
 }
@@ -333,36 +327,34 @@ fn add_field(sums: FieldSums, payload: bool, size: Size, padded: MaybeNumber) ->
 // Field k more.
 fn next_field(
     rec: &[u8],
-    places: &[usize],
-    own: &[u64],
-    parents: &[u64],
-    payloads: &[u64],
+    rows: &[u64],
+    values: &[u64],
     fields: &[usize],
     i: usize,
     n: usize,
     k: usize,
     sums: FieldSums,
 ) -> FieldSums
-    ensures { λ r. ⌜ r ≡ nextField (now (rec .entry)) (rowsFrom (now (rec .entry)) (now (places .entry)) (now (own .entry)) (now (parents .entry)) (now (payloads .entry)) 0 i) (now (fields .entry)) (i * 64) n k sums ⌝ }
+    ensures { λ r. let t : Tables = tablesOf (now (rec .entry)) (now (rows .entry)) (now (values .entry)) (now (fields .entry)) in
+        ⌜ r ≡ nextField (t .source) (rowsOf t i) (t .values) (t .fields) (i * 64) n k sums ⌝ }
 {
-    let f = references::field_in(rec, fields, i, k);
-    let size = annotate_field(rec, places, own, parents, payloads, fields, i, n, f);
-    let padded = padded_size(rec, fields, i, n, k);
+    let f = references::field_in(values, fields, i, k);
+    let size = annotate_field(rec, rows, values, fields, i, n, f);
+    let padded = padded_size(values, fields, i, n, k);
     let desc = f.desc;
     add_field(sums, is_payload(desc), size, padded)
 }
 
 pub fn sum_fields(
     rec: &[u8],
-    places: &[usize],
-    own: &[u64],
-    parents: &[u64],
-    payloads: &[u64],
+    rows: &[u64],
+    values: &[u64],
     fields: &[usize],
     i: usize,
     n: usize,
 ) -> FieldSums
-    ensures { λ r. ⌜ r ≡ sumFields noFields (annotateFields (now (rec .entry)) (rowsFrom (now (rec .entry)) (now (places .entry)) (now (own .entry)) (now (parents .entry)) (now (payloads .entry)) 0 i) (fieldsFrom (now (rec .entry)) (now (fields .entry)) (i * 64) n) (fieldsFrom (now (rec .entry)) (now (fields .entry)) (i * 64) n)) ⌝ }
+    ensures { λ r. let t : Tables = tablesOf (now (rec .entry)) (now (rows .entry)) (now (values .entry)) (now (fields .entry)) in
+        ⌜ r ≡ sumFields noFields (annotateFields (t .source) (rowsOf t i) (fieldsOf t i n) (fieldsOf t i n)) ⌝ }
 {
     let mut sums = FieldSums {
         large: false,
@@ -372,7 +364,7 @@ pub fn sum_fields(
     };
     let mut k = 0;
     while k < n {
-        sums = next_field(rec, places, own, parents, payloads, fields, i, n, k, sums);
+        sums = next_field(rec, rows, values, fields, i, n, k, sums);
         k += 1;
     }
     sums

@@ -6,9 +6,8 @@ use mathlib.Core.List.{List}
 use mathlib.Core.Path.{_≡_, refl, sym, ap, _∙_}
 use borrow.Author.Tests.{ltb-false}
 use Rattle.definitions.specs.Bytes.{Text, pick}
-use Rattle.definitions.specs.Sizes.{enumOf, elementSize, arraySize}
+use Rattle.definitions.specs.Sizes.{Row, enumOf, elementSize, arraySize}
 use Rattle.definitions.specs.Refusals.{tooLarge, badMaybe}
-use Rattle.definitions.specs.Tables.{rowsFrom}
 use Rattle.definitions.specs.declared.ArraySize.{ArraySize}
 use Rattle.definitions.specs.declared.ElementSize.{ElementSize}
 use Rattle.definitions.specs.declared.EndiannessValue.{EndiannessValue}
@@ -22,7 +21,8 @@ use Rattle.rows.specs.Enums.{enumType}
 use Rattle.rows.specs.declared.EnumType.{EnumType}
 use Rattle.elements.specs.declared.Element.{Element}
 use Rattle.emits.specs.declared.BlockAt.{BlockAt}
-use Rattle.emits.specs.Target.{rowsOf, fieldsOf, annotatedAt, Fine}
+use Rattle.tables.specs.Tables.{Tables, tablesOf, rowsOf, fieldsOf}
+use Rattle.emits.specs.Target.{annotatedAt, Fine}
 use Rattle.emits.proofs.Fines.{padding-fine}
 use Rattle.array_fields.specs.Arrays.{typedElement, elementAt, bytesOf, arrayAt}
 
@@ -39,20 +39,17 @@ module _ (order : EndiannessValue) {e : EnumType} where
     pub closed-enum : isOpen ≡ false → Element.ClosedEnum order width ≡ typedElement order e
     closed-enum o = ap (λ (b : Bool). pick b (Element.OpenEnum order width) (Element.ClosedEnum order width)) (sym o) ∙ ap (typedElement order) (sym h)
 
--- the rows of any size tables
-module _ (s p : List ℕ) (n : ℕ) (order : EndiannessValue) {w : MaybeNumber} where
-  pub element-scalar : (t : MaybePart) {bits : ℕ} → w ≡ MaybeNumber.Some bits
-      → (own par pay : List ℕ) → Element.Scalar order bits ≡ elementAt s (rowsFrom s p own par pay 0 n) order w t
-  element-scalar t e own par pay = sym (ap (λ (w : MaybeNumber). elementAt s (rowsFrom s p own par pay 0 n) order w t) e)
+module _ (s : Text) (rows : List Row) (order : EndiannessValue) {w : MaybeNumber} where
+  pub element-scalar : (t : MaybePart) {bits : ℕ} → w ≡ MaybeNumber.Some bits → Element.Scalar order bits ≡ elementAt s rows order w t
+  element-scalar t e = sym (ap (λ (w : MaybeNumber). elementAt s rows order w t) e)
 
   module _ (ew : w ≡ MaybeNumber.None) {t : MaybePart} where
-    pub element-typed : {type : Part} → t ≡ MaybePart.Some type → {e : EnumType}
-        → ((own par pay : List ℕ) → e ≡ enumType (enumOf s (rowsFrom s p own par pay 0 n) type)) → {r : Element} → r ≡ typedElement order e
-        → (own par pay : List ℕ) → r ≡ elementAt s (rowsFrom s p own par pay 0 n) order w t
-    element-typed et ee er own par pay = er ∙ ap (typedElement order) (ee own par pay) ∙ sym (rw (ew, et))
+    pub element-typed : {type : Part} → t ≡ MaybePart.Some type → {e : EnumType} → e ≡ enumType (enumOf s rows type)
+        → {r : Element} → r ≡ typedElement order e → r ≡ elementAt s rows order w t
+    element-typed et ee er = er ∙ ap (typedElement order) ee ∙ sym (rw (ew, et))
 
-    pub element-neither : t ≡ MaybePart.None → (own par pay : List ℕ) → Element.Parsed ≡ elementAt s (rowsFrom s p own par pay 0 n) order w t
-    element-neither et own par pay = sym (rw (ew, et))
+    pub element-neither : t ≡ MaybePart.None → Element.Parsed ≡ elementAt s rows order w t
+    element-neither et = sym (rw (ew, et))
 
 -- ---- the padding
 
@@ -64,24 +61,23 @@ number-fine : (p : MaybeNumber) → badMaybe tooLarge p ≡ false → cappedNumb
 number-fine MaybeNumber.None h = refl
 number-fine (MaybeNumber.Some bits) h = ap (λ (n : ℕ). MaybeNumber.Some n) (sym (cap-under bits (ltb-false 2147483647 bits h)))
 
-module _ (s : Text) (places own parents payloads fields : List ℕ) (i n k : ℕ) where
-  pub padding-bytes : Fine s places own parents payloads fields i n → k < n
-      → {p : MaybeNumber} → p ≡ cappedNumber (annotatedAt s places own parents payloads fields i n k .paddedSize) → {r : MaybeNumber} → r ≡ bytesOf p
-      → r ≡ bytesOf (annotatedAt s places own parents payloads fields i n k .paddedSize)
+module _ (s rows values fields : List ℕ) (i n k : ℕ) where
+  abbrev tables : Tables
+  tables = tablesOf s rows values fields
+
+  pub padding-bytes : Fine tables i n → k < n → {p : MaybeNumber} → p ≡ cappedNumber (annotatedAt tables i n k .paddedSize) → {r : MaybeNumber} → r ≡ bytesOf p
+      → r ≡ bytesOf (annotatedAt tables i n k .paddedSize)
   padding-bytes fine h ep er =
-      er
-      ∙ ap bytesOf
-      (ep ∙ number-fine (annotatedAt s places own parents payloads fields i n k .paddedSize) (padding-fine s places own parents payloads fields i n fine k h))
+      er ∙ ap bytesOf (ep ∙ number-fine (annotatedAt tables i n k .paddedSize) (padding-fine s rows values fields i n fine k h))
 
   -- ---- the block
 
   pub array-made : (order : EndiannessValue) (id : Part) (width : MaybeNumber) (type : MaybePart) (modifier : Modifier) (size : MaybeNumber)
-      → {padding : MaybeNumber} → padding ≡ bytesOf (annotatedAt s places own parents payloads fields i n k .paddedSize)
-      → {element : Element} → ((own par pay : List ℕ) → element ≡ elementAt s (rowsFrom s places own par pay 0 i) order width type)
-      → {e : ElementSize} → e ≡ elementSize s (rowsOf s places own parents payloads fields i n) (fieldsOf s places own parents payloads fields i n) id width type
-      → {m : ArraySize} → m ≡ arraySize s (fieldsOf s places own parents payloads fields i n) id size
+      → {padding : MaybeNumber} → padding ≡ bytesOf (annotatedAt tables i n k .paddedSize)
+      → {element : Element} → element ≡ elementAt s (rowsOf tables i) order width type
+      → {e : ElementSize} → e ≡ elementSize s (rowsOf tables i) (fieldsOf tables i n) id width type
+      → {m : ArraySize} → m ≡ arraySize s (fieldsOf tables i n) id size
       → BlockAt.Array padding id type element modifier e m
-      ≡ arrayAt s (rowsOf s places own parents payloads fields i n) (fieldsOf s places own parents payloads fields i n) order
-      (annotatedAt s places own parents payloads fields i n k .paddedSize) id width type modifier size
+      ≡ arrayAt s (rowsOf tables i) (fieldsOf tables i n) order (annotatedAt tables i n k .paddedSize) id width type modifier size
   unfolding arrayAt
-  array-made order id width type modifier size ep ee es em = rw (ep, ee own parents payloads, es, em)
+  array-made order id width type modifier size ep ee es em = rw (ep, ee, es, em)

@@ -1,6 +1,7 @@
 // The arm of `parse` in cxx.rs for an array, as a value: what `parse_array_field_lite`, `parse_array_field_full` and `parse_array_element` ask of the
 // tables. The array is field k of the n that the declaration with the index i has from 64 i on; types are looked up among the declarations before it.
 
+use annotate::ArrayParts;
 use definitions::EndiannessValue;
 use definitions::MaybeNumber;
 use definitions::MaybePart;
@@ -10,10 +11,9 @@ use elements::Element;
 use emits::BlockAt;
 use rows::EnumType;
 ghost use mathlib.Core.Path.{_≡_};
-ghost use mathlib.Core.List.{List};
-ghost use Prim.Native.Nat.{ℕ, _<_};
-ghost use Rattle.definitions.specs.Tables.{rowsFrom};
-ghost use Rattle.emits.specs.Target.{rowsOf, fieldsOf, annotatedAt, Fine};
+ghost use Prim.Native.Nat.{_<_};
+ghost use Rattle.tables.specs.Tables.{rowsFrom, Tables, tablesOf, rowsOf, fieldsOf};
+ghost use Rattle.emits.specs.Target.{annotatedAt, Fine};
 ghost use Rattle.array_fields.specs.Arrays.{typedElement, elementAt, bytesOf, arrayAt};
 
 // `complete` spares no test here.
@@ -38,13 +38,13 @@ fn typed_element(endianness: EndiannessValue, e: EnumType) -> Element
 // How an element is read.
 fn element_of(
     rec: &[u8],
-    places: &[usize],
+    rows: &[u64],
     i: usize,
     endianness: EndiannessValue,
     width: MaybeNumber,
     type_id: MaybePart,
 ) -> Element
-    ensures { λ r. ⌜ ((own parents payloads : List ℕ) → r ≡ elementAt (now (rec .entry)) (rowsFrom (now (rec .entry)) (now (places .entry)) own parents payloads 0 i) endianness width «type_id») ⌝ }
+    ensures { λ r. ⌜ r ≡ elementAt (now (rec .entry)) (rowsFrom (now (rows .entry)) 0 i) endianness width «type_id» ⌝ }
 {
     match width {
         MaybeNumber::Some(bits) => Element::Scalar {
@@ -52,7 +52,7 @@ fn element_of(
             width: bits,
         },
         MaybeNumber::None => match type_id {
-            MaybePart::Some(name) => typed_element(endianness, rows::enum_of(rec, places, i, name)),
+            MaybePart::Some(name) => typed_element(endianness, rows::enum_of(rec, rows, i, name)),
             MaybePart::None => Element::Parsed,
         },
     }
@@ -70,28 +70,25 @@ fn bytes_of(bits: MaybeNumber) -> MaybeNumber
 // `schema.padded_size` of field k, in bytes.
 fn padded_bytes(
     rec: &[u8],
-    places: &[usize],
-    own: &[u64],
-    parents: &[u64],
-    payloads: &[u64],
+    rows: &[u64],
+    values: &[u64],
     fields: &[usize],
     i: usize,
     n: usize,
     k: usize,
 ) -> MaybeNumber
     requires { ⌜ k < n ⌝ }
-    requires { ⌜ Fine (now rec) (now places) (now own) (now parents) (now payloads) (now fields) i n ⌝ }
-    ensures { λ r. ⌜ r ≡ bytesOf (annotatedAt (now (rec .entry)) (now (places .entry)) (now (own .entry)) (now (parents .entry)) (now (payloads .entry)) (now (fields .entry)) i n k .paddedSize) ⌝ }
+    requires { let t : Tables = tablesOf (now rec) (now rows) (now values) (now fields) in ⌜ Fine t i n ⌝ }
+    ensures { λ r. let t : Tables = tablesOf (now (rec .entry)) (now (rows .entry)) (now (values .entry)) (now (fields .entry)) in
+        ⌜ r ≡ bytesOf (annotatedAt t i n k .paddedSize) ⌝ }
 {
-    bytes_of(annotate::padded_size(rec, fields, i, n, k))
+    bytes_of(annotate::padded_size(values, fields, i, n, k))
 }
 
 pub fn parse_array_field(
     rec: &[u8],
-    places: &[usize],
-    own: &[u64],
-    parents: &[u64],
-    payloads: &[u64],
+    rows: &[u64],
+    values: &[u64],
     fields: &[usize],
     i: usize,
     n: usize,
@@ -104,25 +101,20 @@ pub fn parse_array_field(
     size: MaybeNumber,
 ) -> BlockAt
     requires { ⌜ k < n ⌝ }
-    requires { ⌜ Fine (now rec) (now places) (now own) (now parents) (now payloads) (now fields) i n ⌝ }
-    ensures { λ r. ⌜ r ≡ arrayAt (now (rec .entry)) (rowsOf (now (rec .entry)) (now (places .entry)) (now (own .entry)) (now (parents .entry)) (now (payloads .entry)) (now (fields .entry)) i n) (fieldsOf (now (rec .entry)) (now (places .entry)) (now (own .entry)) (now (parents .entry)) (now (payloads .entry)) (now (fields .entry)) i n) endianness (annotatedAt (now (rec .entry)) (now (places .entry)) (now (own .entry)) (now (parents .entry)) (now (payloads .entry)) (now (fields .entry)) i n k .paddedSize) id width «type_id» «size_modifier» size ⌝ }
+    requires { let t : Tables = tablesOf (now rec) (now rows) (now values) (now fields) in ⌜ Fine t i n ⌝ }
+    ensures { λ r. let t : Tables = tablesOf (now (rec .entry)) (now (rows .entry)) (now (values .entry)) (now (fields .entry)) in
+        ⌜ r ≡ arrayAt (t .source) (rowsOf t i) (fieldsOf t i n) endianness (annotatedAt t i n k .paddedSize) id width «type_id» «size_modifier» size ⌝ }
 {
-    let padding = padded_bytes(rec, places, own, parents, payloads, fields, i, n, k);
-    let element = element_of(rec, places, i, endianness, width, type_id);
-    let element_size = sizes::element_size(
-        rec,
-        places,
-        own,
-        parents,
-        payloads,
-        fields,
-        i,
-        n,
+    let padding = padded_bytes(rec, rows, values, fields, i, n, k);
+    let element = element_of(rec, rows, i, endianness, width, type_id);
+    let array = ArrayParts {
         id,
         width,
         type_id,
-    );
-    let array_size = references::array_size(rec, fields, i, n, id, size);
+        size,
+    };
+    let element_size = sizes::element_size(rec, rows, values, fields, i, n, array);
+    let array_size = references::array_size(rec, values, fields, i, n, id, size);
     BlockAt::Array {
         padding,
         id,

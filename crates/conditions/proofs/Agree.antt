@@ -10,11 +10,11 @@ use lib.Seq.{sets, getD-set-same, getD-set-other}
 use Rattle.definitions.specs.Bytes.{Text, any}
 use Rattle.definitions.specs.Record.{partOf}
 use Rattle.definitions.specs.Sizes.{sameName}
-use Rattle.definitions.specs.Tables.{fieldHere, fieldsFrom}
 use Rattle.definitions.specs.FieldParser.{isCondOf}
 use Rattle.definitions.specs.declared.Cond.{Cond}
 use Rattle.definitions.specs.declared.Field.{Field}
 use Rattle.definitions.specs.declared.Part.{Part}
+use Rattle.tables.specs.Tables.{fieldHere, fieldsFrom}
 use Rattle.conditions.specs.IfNames.{ifName, condNames, isCondIn, startsOf, endsOf, namesFrom, Gathered}
 use Rattle.conditions.proofs.Gathers.{one-name}
 
@@ -54,26 +54,26 @@ read-back (p ∷ ps) starts ends m h k =
     y : List ℕ
     y = sets ends m (endsOf (p ∷ ps))
 
-names-few : (s : Text) (fields : List ℕ) (j n : ℕ) → length (condNames (fieldsFrom s fields j n)) ≤ n
+names-few : (values fields : List ℕ) (j n : ℕ) → length (condNames (fieldsFrom values fields j n)) ≤ n
 unfolding condNames fieldsFrom
-names-few s fields j zero = omega arith
-names-few s fields j (suc n) =
+names-few values fields j zero = omega arith
+names-few values fields j (suc n) =
     omega (
       arith,
-      length-append (ifName (fieldHere s (getD fields j 0) .cond)) (condNames (fieldsFrom s fields (j + 1) n)),
-      one-name (fieldHere s (getD fields j 0) .cond),
-      names-few s fields (j + 1) n,
+      length-append (ifName (fieldHere values (getD fields j 0) .cond)) (condNames (fieldsFrom values fields (j + 1) n)),
+      one-name (fieldHere values (getD fields j 0) .cond),
+      names-few values fields (j + 1) n,
     )
 
 -- the tables that `conditions` left
-pub gathered-names : (s : Text) (fields : List ℕ) (j n : ℕ) {starts ends x y : List ℕ} {r : ℕ}
-    → Gathered (condNames (fieldsFrom s fields j n)) starts ends 0 r x y → n ≤ length starts → n ≤ length ends
-    → namesFrom x y 0 r ≡ condNames (fieldsFrom s fields j n)
-gathered-names s fields j n {starts} {ends} {x} {y} {r} g h k =
+pub gathered-names : (values fields : List ℕ) (j n : ℕ) {starts ends x y : List ℕ} {r : ℕ}
+    → Gathered (condNames (fieldsFrom values fields j n)) starts ends 0 r x y → n ≤ length starts → n ≤ length ends
+    → namesFrom x y 0 r ≡ condNames (fieldsFrom values fields j n)
+gathered-names values fields j n {starts} {ends} {x} {y} {r} g h k =
     ap (λ (x : List ℕ). namesFrom x y 0 r) (g .starts-are)
     ∙ ap (λ (y : List ℕ). namesFrom (sets starts 0 (startsOf names)) y 0 r) (g .ends-are)
     ∙ ap (namesFrom (sets starts 0 (startsOf names)) (sets ends 0 (endsOf names)) 0) (let z : r ≡ length names = omega (arith, g .number) in z)
-    ∙ read-back names starts ends 0 (omega (arith, names-few s fields j n)) (omega (arith, names-few s fields j n))
+    ∙ read-back names starts ends 0 (omega (arith, names-few values fields j n)) (omega (arith, names-few values fields j n))
   where
     names : List Part
-    names = condNames (fieldsFrom s fields j n)
+    names = condNames (fieldsFrom values fields j n)

@@ -7,11 +7,10 @@ use native.Mathlib.Nat.{add-zero}
 use native.Mathlib.Omega.{arith}
 use lib.ListN.{length, getD, set, length-append}
 use lib.Seq.{sets, length-sets}
-use Rattle.definitions.specs.Bytes.{Text}
-use Rattle.definitions.specs.Tables.{fieldHere, fieldsFrom}
 use Rattle.definitions.specs.declared.Cond.{Cond}
 use Rattle.definitions.specs.declared.Field.{Field}
 use Rattle.definitions.specs.declared.Part.{Part}
+use Rattle.tables.specs.Tables.{fieldHere, fieldsFrom}
 use Rattle.references.proofs.Turns.{fields-start, fields-end, fields-more}
 use Rattle.conditions.specs.IfNames.{ifName, condNames, startsOf, endsOf, Gathered}
 
@@ -64,33 +63,34 @@ one-name Cond.None = omega arith
 one-name (Cond.Some id value) = omega arith
 
 -- before field k: whatever gathers the names that are left gathers all of them
-pub record Left (s : Text) (fields : List ℕ) (j n : ℕ) (starts₀ ends₀ starts ends : List ℕ) (m k : ℕ) : Type 0 where
+pub record Left (values fields : List ℕ) (j n : ℕ) (starts₀ ends₀ starts ends : List ℕ) (m k : ℕ) : Type 0 where
   pub small : k ≤ n
   pub few : m ≤ k
   pub long-starts : length starts ≡ length starts₀
   pub long-ends : length ends ≡ length ends₀
-  pub gathers : (r : ℕ) (x y : List ℕ) → Gathered (condNames (fieldsFrom s fields (j + k) (n - k))) starts ends m r x y
-      → Gathered (condNames (fieldsFrom s fields j n)) starts₀ ends₀ 0 r x y
+  pub gathers : (r : ℕ) (x y : List ℕ) → Gathered (condNames (fieldsFrom values fields (j + k) (n - k))) starts ends m r x y
+      → Gathered (condNames (fieldsFrom values fields j n)) starts₀ ends₀ 0 r x y
 
-module _ (s : Text) (fields : List ℕ) (j n : ℕ) (starts₀ ends₀ : List ℕ) where
-  pub left-start : Left s fields j n starts₀ ends₀ starts₀ ends₀ 0 0
+module _ (values fields : List ℕ) (j n : ℕ) (starts₀ ends₀ : List ℕ) where
+  pub left-start : Left values fields j n starts₀ ends₀ starts₀ ends₀ 0 0
   left-start = record {
     small = omega arith;
     few = omega arith;
     long-starts = refl;
     long-ends = refl;
-    gathers = λ r x y g. subst (λ (fs : List Field). Gathered (condNames fs) starts₀ ends₀ 0 r x y) (fields-start s fields j n) g;
+    gathers = λ r x y g. subst (λ (fs : List Field). Gathered (condNames fs) starts₀ ends₀ 0 r x y) (fields-start values fields j n) g;
   }
 
-  module _ {starts ends : List ℕ} {m k : ℕ} (l : Left s fields j n starts₀ ends₀ starts ends m k) where
-    pub left-end : n ≤ k → Gathered (condNames (fieldsFrom s fields j n)) starts₀ ends₀ 0 m starts ends
+  module _ {starts ends : List ℕ} {m k : ℕ} (l : Left values fields j n starts₀ ends₀ starts ends m k) where
+    pub left-end : n ≤ k → Gathered (condNames (fieldsFrom values fields j n)) starts₀ ends₀ 0 m starts ends
     unfolding condNames
     left-end h =
         l .gathers m starts ends
-        (subst (λ (fs : List Field). Gathered (condNames fs) starts ends m m starts ends) (sym (fields-end s fields j n k h)) (nothing starts ends m))
+        (subst (λ (fs : List Field). Gathered (condNames fs) starts ends m m starts ends) (sym (fields-end values fields j n k h)) (nothing starts ends m))
 
-    pub left-turn : k < n → {f : Field} → f ≡ fieldHere s (getD fields (j + k) 0) → {q : ℕ} {x y : List ℕ} → Gathered (ifName (f .cond)) starts ends m q x y
-        → Left s fields j n starts₀ ends₀ x y q (k + 1)
+    pub left-turn : k < n → {f : Field} → f ≡ fieldHere values (getD fields (j + k) 0) → {q : ℕ} {x y : List ℕ}
+        → Gathered (ifName (f .cond)) starts ends m q x y
+        → Left values fields j n starts₀ ends₀ x y q (k + 1)
     unfolding condNames
     left-turn h {f} ef {q} {x} {y} g = record {
       small = omega arith;
@@ -99,7 +99,7 @@ module _ (s : Text) (fields : List ℕ) (j n : ℕ) (starts₀ ends₀ : List �
       long-ends = ap length (g .ends-are) ∙ length-sets ends m (endsOf (ifName (f .cond))) ∙ l .long-ends;
       gathers =
           λ r x′ y′ d. l .gathers r x′ y′
-          (subst (λ (fs : List Field). Gathered (condNames fs) starts ends m r x′ y′) (sym (fields-more s fields j n k h))
-          (subst (λ (f : Field). Gathered (ifName (f .cond) ++ condNames (fieldsFrom s fields (j + (k + 1)) (n - (k + 1)))) starts ends m r x′ y′) ef
+          (subst (λ (fs : List Field). Gathered (condNames fs) starts ends m r x′ y′) (sym (fields-more values fields j n k h))
+          (subst (λ (f : Field). Gathered (ifName (f .cond) ++ condNames (fieldsFrom values fields (j + (k + 1)) (n - (k + 1)))) starts ends m r x′ y′) ef
           (chain g d)));
     }

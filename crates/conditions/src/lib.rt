@@ -1,12 +1,14 @@
 // `is_cond_for` (cxx.rs): whether a name stands behind the `if` of some field of the target. Like the Rust, the code goes through the fields once:
-// it gathers the `if` names, as two tables of their places in the record. The fields of the declaration with the index i are the n that the table
-// of fields has from 64 i on.
+// it gathers the `if` names, as two tables of their places in the record. The fields of the declaration with the index i are the n whose places the
+// table of fields has from 64 i on.
 
 use definitions::Cond;
 use definitions::Part;
+ghost use mathlib.Core.List.{List};
 ghost use mathlib.Core.Path.{_≡_};
 ghost use Prim.Native.Nat.{_+_, _*_, _<_, _^_};
-ghost use Rattle.definitions.specs.Tables.{fieldsFrom};
+ghost use Rattle.definitions.specs.declared.Part.{Part};
+ghost use Rattle.tables.specs.Tables.{fieldsFrom};
 ghost use Rattle.conditions.specs.IfNames.{ifName, condNames, namesFrom, isCondIn, Gathered};
 
 // The `if` name of a field, behind the m that the tables have.
@@ -17,8 +19,8 @@ fn gather(cond: Cond, starts: &mut [usize], ends: &mut [usize], m: usize) -> usi
     match cond {
         Cond::None => m,
         Cond::Some { id, value: _ } => {
-            places::put(starts, m, id.start);
-            places::put(ends, m, id.end);
+            tables::put(starts, m, id.start);
+            tables::put(ends, m, id.end);
             m + 1
         }
     }
@@ -26,19 +28,20 @@ fn gather(cond: Cond, starts: &mut [usize], ends: &mut [usize], m: usize) -> usi
 
 // How many `if` names there are; the tables have their starts and ends from 0 on, as far as they reach, and are unchanged behind.
 pub fn conditions(
-    rec: &[u8],
+    values: &[u64],
     fields: &[usize],
     i: usize,
     n: usize,
     starts: &mut [usize],
     ends: &mut [usize],
 ) -> usize
-    ensures { λ r. ⌜ Gathered (condNames (fieldsFrom (now (rec .entry)) (now (fields .entry)) (i * 64) n)) (now (starts .entry)) (now (ends .entry)) 0 r (now (starts .exit)) (now (ends .exit)) ⌝ }
+    ensures { λ r. let names : List Part = condNames (fieldsFrom (now (values .entry)) (now (fields .entry)) (i * 64) n) in
+        ⌜ Gathered names (now (starts .entry)) (now (ends .entry)) 0 r (now (starts .exit)) (now (ends .exit)) ⌝ }
 {
     let mut m = 0;
     let mut k = 0;
     while k < n {
-        let f = references::field_in(rec, fields, i, k);
+        let f = references::field_in(values, fields, i, k);
         let cond = f.cond;
         m = gather(cond, starts, ends, m);
         k += 1;
@@ -52,8 +55,8 @@ pub fn is_cond_for(rec: &[u8], starts: &[usize], ends: &[usize], m: usize, id: P
 {
     let mut k = 0;
     while k < m {
-        let start = places::get(starts, k);
-        let end = places::get(ends, k);
+        let start = tables::get(starts, k);
+        let end = tables::get(ends, k);
         if names::same_name(rec, Part { start, end }, id) {
             return true;
         }

@@ -1,6 +1,6 @@
 // The types that the definitions and the code share, by value: those of ast.rs, the sizes of analyzer.rs, what the record's reader finds
 // at a place, and the refusals of document 01. What must be believed about the answer stands in specs/, in the order of document 01:
-// Bytes, Record, Sizes, Refusals, Lines, Blocks, FieldParser, Answer. (Tables says what the code's tables of places hold.)
+// Bytes, Record, Sizes, Refusals, Lines, Blocks, FieldParser, Answer. (Tables: sizes as numbers of a table.)
 
 // ---- ast.rs: a name is a part of the record and is not copied; what may be absent is an enum of its own
 

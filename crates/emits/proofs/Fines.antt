@@ -8,27 +8,30 @@ use mathlib.Core.Path.{_≡_, sym, ap, subst, _∙_}
 use native.Mathlib.Numerals.{add-one}
 use native.Mathlib.Omega.{arith}
 use borrow.Author.Tests.{ltb-false}
-use Rattle.definitions.specs.Bytes.{Text, any}
+use Rattle.definitions.specs.Bytes.{any}
 use Rattle.definitions.specs.Sizes.{Annotated, annotateField}
 use Rattle.definitions.specs.Refusals.{largeSize, tooLarge, badMaybe, largeField, staticSum}
-use Rattle.definitions.specs.Tables.{fieldHere}
 use Rattle.definitions.specs.declared.Field.{Field}
 use Rattle.definitions.specs.declared.Size.{Size}
 use Rattle.bits.proofs.Booleans.{or-left, or-right}
-use Rattle.emits.specs.Target.{rowsOf, fieldsOf, restAt, annotatedAt, Fine}
+use Rattle.tables.specs.Tables.{fieldHere, Tables, tablesOf, rowsOf, fieldsOf}
+use Rattle.emits.specs.Target.{restAt, annotatedAt, Fine}
 use Rattle.emits.proofs.Rests.{rest-step}
 
-module _ (s : Text) (places own parents payloads fields : List ℕ) (i n : ℕ) where
+module _ (s rows values fields : List ℕ) (i n : ℕ) where
+  abbrev tables : Tables
+  tables = tablesOf s rows values fields
+
   abbrev rest : ℕ → List Annotated
-  rest j = restAt s places own parents payloads fields i n j
+  rest j = restAt tables i n j
 
   abbrev here : ℕ → Annotated
-  here j = annotatedAt s places own parents payloads fields i n j
+  here j = annotatedAt tables i n j
 
   step : (j : ℕ) → j < n → rest j ≡ here j ∷ rest (j + 1)
-  step j h = rest-step s places own parents payloads fields i n j h
+  step j h = rest-step s rows values fields i n j h
 
-  module _ (fine : Fine s places own parents payloads fields i n) where
+  module _ (fine : Fine tables i n) where
     abbrev Kept : ℕ → Type 0
     Kept j = (any largeField (rest j) ≡ false) × (staticSum (rest j) ≤ 2147483647)
 
@@ -60,17 +63,12 @@ module _ (s : Text) (places own parents payloads fields : List ℕ) (i n : ℕ) 
       padding-fine = or-right (largeSize (here j .fieldSize)) (badMaybe tooLarge (here j .paddedSize)) large-here
 
   -- a field as it is read at its place
-  module _ (k : ℕ) {f : Field} (ef : f ≡ fieldHere s (getD fields (i * 64 + k) 0)) where
-    pub read-fine : Fine s places own parents payloads fields i n → k < n
-        → largeSize (annotateField s (rowsOf s places own parents payloads fields i n) (fieldsOf s places own parents payloads fields i n) f) ≡ false
-    read-fine fine h =
-        ap
-        (λ (f : Field). largeSize
-        (annotateField s (rowsOf s places own parents payloads fields i n) (fieldsOf s places own parents payloads fields i n) f))
-        ef
-        ∙ size-fine fine k h
+  module _ (k : ℕ) {f : Field} (ef : f ≡ fieldHere values (getD fields (i * 64 + k) 0)) where
+    abbrev size : Field → Size
+    size f = annotateField s (rowsOf tables i) (fieldsOf tables i n) f
 
-    pub read-size : {z : Size} → z ≡ annotateField s (rowsOf s places own parents payloads fields i n) (fieldsOf s places own parents payloads fields i n) f → z ≡ here k .fieldSize
-    read-size ez =
-        ez
-        ∙ ap (λ (f : Field). annotateField s (rowsOf s places own parents payloads fields i n) (fieldsOf s places own parents payloads fields i n) f) ef
+    pub read-fine : Fine tables i n → k < n → largeSize (size f) ≡ false
+    read-fine fine h = ap (λ (f : Field). largeSize (size f)) ef ∙ size-fine fine k h
+
+    pub read-size : {z : Size} → z ≡ size f → z ≡ here k .fieldSize
+    read-size ez = ez ∙ ap size ef

@@ -1,45 +1,38 @@
--- The fields of the target, by index, as the tables of places and sizes give them: the declaration with the index i, of n fields.
+-- The fields of the target, by index, as the tables give them: the declaration with the index i, of n fields.
 -- Assumes nothing.
 use mathlib.Core.Bool.{false}
 use mathlib.Core.List.{List}
 use mathlib.Core.Path.{_≡_}
 use Prim.Native.Nat.{ℕ, _+_, _*_, _-_}
 use lib.ListN.{getD}
-use Rattle.definitions.specs.Bytes.{Text, any}
-use Rattle.definitions.specs.Sizes.{Row, Annotated, annotateField, annotateFields, paddedBy}
+use Rattle.definitions.specs.Bytes.{any}
+use Rattle.definitions.specs.Sizes.{Annotated, annotateField, annotateFields, paddedBy}
 use Rattle.definitions.specs.Refusals.{tooLarge, largeField, staticSum}
-use Rattle.definitions.specs.Tables.{fieldHere, fieldsFrom, rowsFrom}
 use Rattle.definitions.specs.FieldParser.{Setting}
 use Rattle.definitions.specs.declared.Arrays.{Arrays}
 use Rattle.definitions.specs.declared.EndiannessValue.{EndiannessValue}
 use Rattle.definitions.specs.declared.Field.{Field}
+use Rattle.tables.specs.Tables.{fieldHere, fieldsFrom, Tables, rowsOf, fieldsOf}
 
-module _ (s : Text) (places own parents payloads fields : List ℕ) (i n : ℕ) where
-  -- `scope`: the rows before it
-  abbrev pub rowsOf : List Row
-  rowsOf = rowsFrom s places own parents payloads 0 i
-
-  -- `decl.fields()`
-  abbrev pub fieldsOf : List Field
-  fieldsOf = fieldsFrom s fields (i * 64) n
-
+module _ (t : Tables) (i n : ℕ) where
+  -- `scope` is the rows before it
   abbrev pub settingAt : EndiannessValue → Arrays → Setting
-  settingAt order m = record { source = s; scope = rowsOf; endianness = order; arrays = m; fields = fieldsOf }
+  settingAt order m = record { source = t .source; scope = rowsOf t i; endianness = order; arrays = m; fields = fieldsOf t i n }
 
   -- from number k on, with their sizes
   abbrev pub restAt : ℕ → List Annotated
-  restAt k = annotateFields s rowsOf fieldsOf (fieldsFrom s fields (i * 64 + k) (n - k))
+  restAt k = annotateFields (t .source) (rowsOf t i) (fieldsOf t i n) (fieldsFrom (t .values) (t .fields) (i * 64 + k) (n - k))
 
   abbrev pub fieldIn : ℕ → Field
-  fieldIn k = fieldHere s (getD fields (i * 64 + k) 0)
+  fieldIn k = fieldHere (t .values) (getD (t .fields) (i * 64 + k) 0)
 
   -- number k, with its sizes
   abbrev pub annotatedAt : ℕ → Annotated
   annotatedAt k =
       record {
         field = fieldIn k;
-        fieldSize = annotateField s rowsOf fieldsOf (fieldIn k);
-        paddedSize = paddedBy (fieldsFrom s fields (i * 64 + (k + 1)) (n - (k + 1)));
+        fieldSize = annotateField (t .source) (rowsOf t i) (fieldsOf t i n) (fieldIn k);
+        paddedSize = paddedBy (fieldsFrom (t .values) (t .fields) (i * 64 + (k + 1)) (n - (k + 1)));
       }
 
   -- behind refusal 7

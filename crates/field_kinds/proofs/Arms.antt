@@ -5,10 +5,9 @@ use mathlib.Core.Bool.{Bool, true, false, _||_}
 use mathlib.Core.List.{List}
 use mathlib.Core.Path.{_≡_, sym, ap, _∙_}
 use Rattle.definitions.specs.Bytes.{Text, pick}
-use Rattle.definitions.specs.Sizes.{enumOf}
+use Rattle.definitions.specs.Sizes.{Row, enumOf}
 use Rattle.definitions.specs.declared.FieldDesc.{FieldDesc}
 use Rattle.definitions.specs.declared.Part.{Part}
-use Rattle.definitions.specs.Tables.{rowsFrom}
 use Rattle.names.specs.Written.{fieldName}
 use Rattle.names.specs.declared.WrittenName.{WrittenName}
 use Rattle.rows.specs.Enums.{enumType}
@@ -49,29 +48,26 @@ module _ (id type : Part) {e : EnumType} where
       closed-enum k =
           ap (λ (b : Bool). pick b (KindAt.OpenEnum id type) (KindAt.ClosedEnum id type)) (sym k ∙ ap (λ (b : Bool). b || isComplete) (sym o)) ∙ picked
 
--- the rows of any size tables; `d` is the field's kind
-module _ (s p : Text) (names : List Part) (n : ℕ) {d : FieldDesc} where
-  pub kind-as : {c : FieldDesc} {r : KindAt} → d ≡ c → ((own par pay : List ℕ) → r ≡ kindAt s (rowsFrom s p own par pay 0 n) names c)
-      → (own par pay : List ℕ) → r ≡ kindAt s (rowsFrom s p own par pay 0 n) names d
-  kind-as e h own par pay = h own par pay ∙ ap (kindAt s (rowsFrom s p own par pay 0 n) names) (sym e)
+-- `d` is the field's kind
+module _ (s : Text) (rows : List Row) (names : List Part) {d : FieldDesc} where
+  pub kind-as : {c : FieldDesc} {r : KindAt} → d ≡ c → r ≡ kindAt s rows names c → r ≡ kindAt s rows names d
+  kind-as e h = h ∙ ap (kindAt s rows names) (sym e)
 
   pub kind-size : {of : Part} {width : ℕ} → d ≡ FieldDesc.Size of width → {name : WrittenName} → name ≡ fieldName s of
-      → (own par pay : List ℕ) → KindAt.Number name End.Size ≡ kindAt s (rowsFrom s p own par pay 0 n) names d
+      → KindAt.Number name End.Size ≡ kindAt s rows names d
   unfolding kindAt
-  kind-size e h = kind-as e (λ own par pay. ap (λ (x : WrittenName). KindAt.Number x End.Size) h)
+  kind-size e h = kind-as e (ap (λ (x : WrittenName). KindAt.Number x End.Size) h)
 
   pub kind-element-size : {of : Part} {width : ℕ} → d ≡ FieldDesc.ElementSize of width → {name : WrittenName} → name ≡ fieldName s of
-      → (own par pay : List ℕ) → KindAt.Number name End.ElementSize ≡ kindAt s (rowsFrom s p own par pay 0 n) names d
+      → KindAt.Number name End.ElementSize ≡ kindAt s rows names d
   unfolding kindAt
-  kind-element-size e h = kind-as e (λ own par pay. ap (λ (x : WrittenName). KindAt.Number x End.ElementSize) h)
+  kind-element-size e h = kind-as e (ap (λ (x : WrittenName). KindAt.Number x End.ElementSize) h)
 
-  pub kind-scalar : {id : Part} {width : ℕ} → d ≡ FieldDesc.Scalar id width → {r : KindAt} → r ≡ scalarKind s names id
-      → (own par pay : List ℕ) → r ≡ kindAt s (rowsFrom s p own par pay 0 n) names d
+  pub kind-scalar : {id : Part} {width : ℕ} → d ≡ FieldDesc.Scalar id width → {r : KindAt} → r ≡ scalarKind s names id → r ≡ kindAt s rows names d
   unfolding kindAt
-  kind-scalar e h = kind-as e (λ own par pay. h)
+  kind-scalar e h = kind-as e h
 
-  pub kind-typedef : {id type : Part} → d ≡ FieldDesc.Typedef id type → {e : EnumType}
-      → ((own par pay : List ℕ) → e ≡ enumType (enumOf s (rowsFrom s p own par pay 0 n) type)) → {r : KindAt} → r ≡ enumKind id type e
-      → (own par pay : List ℕ) → r ≡ kindAt s (rowsFrom s p own par pay 0 n) names d
+  pub kind-typedef : {id type : Part} → d ≡ FieldDesc.Typedef id type → {e : EnumType} → e ≡ enumType (enumOf s rows type)
+      → {r : KindAt} → r ≡ enumKind id type e → r ≡ kindAt s rows names d
   unfolding kindAt
-  kind-typedef {id} {type} e h k = kind-as e (λ own par pay. k ∙ ap (enumKind id type) (h own par pay))
+  kind-typedef {id} {type} e h k = kind-as e (k ∙ ap (enumKind id type) h)

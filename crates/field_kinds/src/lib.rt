@@ -1,6 +1,5 @@
-// What the bits of a bit field are put into, or held against: the arms of the `match` in `parse_bit_field` of cxx.rs, from the field at its place
-// in the record. The `if` names of the target's fields are the m of two tables (crate conditions); types are looked up among the i declarations
-// before it.
+// What the bits of a bit field are put into, or held against: the arms of the `match` in `parse_bit_field` of cxx.rs. The `if` names of the target's
+// fields are the m of two tables (crate conditions); types are looked up among the i declarations before it.
 
 use bit_fields::End;
 use bit_fields::KindAt;
@@ -9,9 +8,7 @@ use definitions::Part;
 use names::WrittenName;
 use rows::EnumType;
 ghost use mathlib.Core.Path.{_≡_};
-ghost use mathlib.Core.List.{List};
-ghost use Prim.Native.Nat.{ℕ};
-ghost use Rattle.definitions.specs.Tables.{rowsFrom};
+ghost use Rattle.tables.specs.Tables.{rowsFrom};
 ghost use Rattle.conditions.specs.IfNames.{namesFrom};
 ghost use Rattle.field_kinds.specs.KindOf.{enumKind, scalarKind, kindAt};
 
@@ -54,14 +51,15 @@ fn enum_kind(id: Part, type_id: Part, e: EnumType) -> KindAt
 
 pub fn kind_of(
     rec: &[u8],
-    places: &[usize],
+    rows: &[u64],
     starts: &[usize],
     ends: &[usize],
     m: usize,
     i: usize,
     desc: FieldDesc,
 ) -> KindAt
-    ensures { λ r. ⌜ ((own parents payloads : List ℕ) → r ≡ kindAt (now (rec .entry)) (rowsFrom (now (rec .entry)) (now (places .entry)) own parents payloads 0 i) (namesFrom (now (starts .entry)) (now (ends .entry)) 0 m) desc) ⌝ }
+    ensures { λ r.
+        ⌜ r ≡ kindAt (now (rec .entry)) (rowsFrom (now (rows .entry)) 0 i) (namesFrom (now (starts .entry)) (now (ends .entry)) 0 m) desc ⌝ }
 {
     match desc {
         FieldDesc::Checksum { field_id: _ } => KindAt::Reserved,
@@ -95,7 +93,7 @@ pub fn kind_of(
         FieldDesc::Typedef { id, type_id } => enum_kind(
             id,
             type_id,
-            rows::enum_of(rec, places, i, type_id),
+            rows::enum_of(rec, rows, i, type_id),
         ),
     }
 }

@@ -10,7 +10,6 @@ use Rattle.definitions.specs.Bytes.{Text, text}
 use Rattle.definitions.specs.Sizes.{Row, Annotated, EnumOf, enumIs, noEnum, enumOf, hasPayloadSize, descSize}
 use Rattle.definitions.specs.Refusals.{largeSize}
 use Rattle.definitions.specs.FieldParser.{Setting, getTrailingSize, sizeBacking, parseUnchecked}
-use Rattle.definitions.specs.Tables.{fieldHere, rowsFrom}
 use Rattle.definitions.specs.declared.Arrays.{Arrays}
 use Rattle.definitions.specs.declared.Cond.{Cond}
 use Rattle.definitions.specs.declared.EndiannessValue.{EndiannessValue}
@@ -22,7 +21,8 @@ use Rattle.definitions.specs.declared.Part.{Part}
 use Rattle.definitions.specs.declared.Size.{Size}
 use Rattle.rows.specs.Enums.{enumType}
 use Rattle.emits.specs.BlockOf.{emitOf, EmitFits}
-use Rattle.emits.specs.Target.{rowsOf, fieldsOf, settingAt, annotatedAt, restAt, Fine}
+use Rattle.tables.specs.Tables.{fieldHere, Tables, tablesOf, rowsOf, fieldsOf}
+use Rattle.emits.specs.Target.{settingAt, annotatedAt, restAt, Fine}
 use Rattle.emits.specs.declared.EmitAt.{EmitAt}
 use Rattle.emits.proofs.Fines.{size-fine}
 use Rattle.trailing.proofs.Fits.{typedef-fits, payload-fits}
@@ -77,42 +77,45 @@ module _ (s : Text) (rows : List Row) (fs : List Field) (order : EndiannessValue
 
 -- ---- field k
 
-module _ (s : Text) (places own parents payloads fields : List ℕ) (i n k shift : ℕ) (order : EndiannessValue) where
-  abbrev rows : List Row
-  rows = rowsOf s places own parents payloads fields i n
+module _ (s rows values fields : List ℕ) (i n k shift : ℕ) (order : EndiannessValue) where
+  abbrev tables : Tables
+  tables = tablesOf s rows values fields
+
+  abbrev scope : List Row
+  scope = rowsOf tables i
 
   abbrev fs : List Field
-  fs = fieldsOf s places own parents payloads fields i n
+  fs = fieldsOf tables i n
 
   abbrev here : Annotated
-  here = annotatedAt s places own parents payloads fields i n k
+  here = annotatedAt tables i n k
 
   abbrev later : List Annotated
-  later = restAt s places own parents payloads fields i n (k + 1)
+  later = restAt tables i n (k + 1)
 
   abbrev setting : Arrays → Setting
-  setting m = settingAt s places own parents payloads fields i n order m
+  setting m = settingAt tables i n order m
 
   abbrev answer : EmitAt
-  answer = parsedAt s places own parents payloads fields i n k shift order
+  answer = parsedAt tables i n k shift order
 
   abbrev other : FieldDesc → EmitAt
-  other d = otherAt s rows fs order shift (here .fieldSize) (here .paddedSize) (getTrailingSize later) d
+  other d = otherAt s scope fs order shift (here .fieldSize) (here .paddedSize) (getTrailingSize later) d
 
   abbrev valueBy : Field → Cond → EmitAt
-  valueBy f cond = elim cond [ Cond.None ↦ other (f .desc) | Cond.Some id value ↦ optionalAt s rows id value (f .desc) ]
+  valueBy f cond = elim cond [ Cond.None ↦ other (f .desc) | Cond.Some id value ↦ optionalAt s scope id value (f .desc) ]
 
   -- ---- by the field's condition
 
-  module _ {f : Field} (ef : f ≡ fieldHere s (getD fields (i * 64 + k) 0)) {cond : Cond} (e : f .cond ≡ cond) where
+  module _ {f : Field} (ef : f ≡ fieldHere values (getD fields (i * 64 + k) 0)) {cond : Cond} (e : f .cond ≡ cond) where
     chosen : valueBy f cond ≡ answer
     unfolding uncheckedAt
     chosen = ap (valueBy f) (sym e) ∙ ap (λ (f : Field). valueBy f (f .cond)) ef
 
-  module _ {f : Field} (ef : f ≡ fieldHere s (getD fields (i * 64 + k) 0)) {r : EmitAt} where
+  module _ {f : Field} (ef : f ≡ fieldHere values (getD fields (i * 64 + k) 0)) {r : EmitAt} where
     pub parsed-optional : {id : Part} {value : ℕ} → f .cond ≡ Cond.Some id value
-        → ((own par pay : List ℕ) → r ≡ optionalAt s (rowsFrom s places own par pay 0 i) id value (f .desc)) → r ≡ answer
-    parsed-optional e h = h own parents payloads ∙ chosen ef e
+        → r ≡ optionalAt s scope id value (f .desc) → r ≡ answer
+    parsed-optional e h = h ∙ chosen ef e
 
     pub parsed-other : f .cond ≡ Cond.None → r ≡ other (f .desc) → r ≡ answer
     parsed-other e h = h ∙ chosen ef e
@@ -124,15 +127,15 @@ module _ (s : Text) (places own parents payloads fields : List ℕ) (i n k shift
 
   -- ---- its numbers fit
 
-  module _ (fine : Fine s places own parents payloads fields i n) (w : k < n) where
+  module _ (fine : Fine tables i n) (w : k < n) where
     fits-by : (cond : Cond) → here .field .cond ≡ cond → EmitFits (valueBy (here .field) cond)
-    fits-by Cond.None e = other-fits s rows fs order shift (here .fieldSize) (here .paddedSize) (getTrailingSize later) (here .field .desc) plain
+    fits-by Cond.None e = other-fits s scope fs order shift (here .fieldSize) (here .paddedSize) (getTrailingSize later) (here .field .desc) plain
       where
-        plain : largeSize (descSize s rows fs (here .field .desc)) ≡ false
+        plain : largeSize (descSize s scope fs (here .field .desc)) ≡ false
         plain =
-            sym (ap (λ (c : Cond). largeSize (elim c [ Cond.None ↦ descSize s rows fs (here .field .desc) | Cond.Some id value ↦ Size.Dynamic ])) e)
-            ∙ size-fine s places own parents payloads fields i n fine k w
-    fits-by (Cond.Some id value) e = optional-fits s rows id value (here .field .desc)
+            sym (ap (λ (c : Cond). largeSize (elim c [ Cond.None ↦ descSize s scope fs (here .field .desc) | Cond.Some id value ↦ Size.Dynamic ])) e)
+            ∙ size-fine s rows values fields i n fine k w
+    fits-by (Cond.Some id value) e = optional-fits s scope id value (here .field .desc)
 
     pub answer-fits : EmitFits answer
     unfolding uncheckedAt

@@ -6,7 +6,6 @@ use mathlib.Core.List.{List}
 use mathlib.Core.Path.{_≡_, sym, ap, _∙_}
 use Rattle.definitions.specs.Bytes.{Text}
 use Rattle.definitions.specs.Sizes.{Row, enumOf, hasPayloadSize}
-use Rattle.definitions.specs.Tables.{rowsFrom}
 use Rattle.definitions.specs.declared.EndiannessValue.{EndiannessValue}
 use Rattle.definitions.specs.declared.Field.{Field}
 use Rattle.definitions.specs.declared.FieldDesc.{FieldDesc}
@@ -41,17 +40,15 @@ module _ (cond : Part) (value : ℕ) (id type : Part) {e : EnumType} where
         picked isOpen (BlockAt.OptionalOpen cond value width id type) (BlockAt.OptionalClosed cond value width id type) o
         ∙ ap (optionalType cond value id type) (sym h)
 
--- the rows of any size tables; `d` is the field's kind
-module _ (s p : List ℕ) (n : ℕ) (cond : Part) (value : ℕ) {d : FieldDesc} where
-  pub optional-as : {c : FieldDesc} {r : EmitAt} → d ≡ c → ((own par pay : List ℕ) → r ≡ optionalAt s (rowsFrom s p own par pay 0 n) cond value c)
-      → (own par pay : List ℕ) → r ≡ optionalAt s (rowsFrom s p own par pay 0 n) cond value d
-  optional-as e h own par pay = h own par pay ∙ ap (optionalAt s (rowsFrom s p own par pay 0 n) cond value) (sym e)
+-- `d` is the field's kind
+module _ (s : Text) (rows : List Row) (cond : Part) (value : ℕ) {d : FieldDesc} where
+  pub optional-as : {c : FieldDesc} {r : EmitAt} → d ≡ c → r ≡ optionalAt s rows cond value c → r ≡ optionalAt s rows cond value d
+  optional-as e h = h ∙ ap (optionalAt s rows cond value) (sym e)
 
-  pub optional-typed : {id type : Part} → d ≡ FieldDesc.Typedef id type → {e : EnumType}
-      → ((own par pay : List ℕ) → e ≡ enumType (enumOf s (rowsFrom s p own par pay 0 n) type)) → {r : EmitAt} → r ≡ optionalType cond value id type e
-      → (own par pay : List ℕ) → r ≡ optionalAt s (rowsFrom s p own par pay 0 n) cond value d
+  pub optional-typed : {id type : Part} → d ≡ FieldDesc.Typedef id type → {e : EnumType} → e ≡ enumType (enumOf s rows type)
+      → {r : EmitAt} → r ≡ optionalType cond value id type e → r ≡ optionalAt s rows cond value d
   unfolding optionalAt
-  optional-typed {id} {type} e h k = optional-as e (λ own par pay. k ∙ ap (optionalType cond value id type) (h own par pay))
+  optional-typed {id} {type} e h k = optional-as e (k ∙ ap (optionalType cond value id type) h)
 
 -- ---- a field without a condition
 

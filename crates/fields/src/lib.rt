@@ -11,11 +11,10 @@ use emits::BlockAt;
 use emits::EmitAt;
 use rows::EnumType;
 ghost use mathlib.Core.Path.{_≡_};
-ghost use mathlib.Core.List.{List};
-ghost use Prim.Native.Nat.{ℕ, _+_, _<_};
+ghost use Prim.Native.Nat.{_+_, _<_};
 ghost use Rattle.definitions.specs.FieldParser.{getTrailingSize};
-ghost use Rattle.definitions.specs.Tables.{rowsFrom};
-ghost use Rattle.emits.specs.Target.{rowsOf, fieldsOf, annotatedAt, restAt, Fine};
+ghost use Rattle.tables.specs.Tables.{rowsFrom, Tables, tablesOf, rowsOf, fieldsOf};
+ghost use Rattle.emits.specs.Target.{annotatedAt, restAt, Fine};
 ghost use Rattle.fields.specs.Values.{optionalType, optionalAt, otherAt};
 ghost use Rattle.fields.specs.Parsed.{parsedAt};
 
@@ -58,13 +57,13 @@ fn optional_typedef(cond: Part, value: u64, id: Part, type_id: Part, e: EnumType
 
 fn parse_optional_field(
     rec: &[u8],
-    places: &[usize],
+    rows: &[u64],
     i: usize,
     cond: Part,
     value: u64,
     desc: FieldDesc,
 ) -> EmitAt
-    ensures { λ r. ⌜ ((own parents payloads : List ℕ) → r ≡ optionalAt (now (rec .entry)) (rowsFrom (now (rec .entry)) (now (places .entry)) own parents payloads 0 i) cond value desc) ⌝ }
+    ensures { λ r. ⌜ r ≡ optionalAt (now (rec .entry)) (rowsFrom (now (rows .entry)) 0 i) cond value desc ⌝ }
 {
     match desc {
         FieldDesc::Checksum { field_id: _ } => EmitAt::Refuses(Refusal::UnsupportedOptional),
@@ -110,7 +109,7 @@ fn parse_optional_field(
             value,
             id,
             type_id,
-            rows::enum_of(rec, places, i, type_id),
+            rows::enum_of(rec, rows, i, type_id),
         ),
     }
 }
@@ -120,10 +119,8 @@ fn parse_optional_field(
 // Its arms for a field without a condition; bit fields do not come here.
 fn parse_other(
     rec: &[u8],
-    places: &[usize],
-    own: &[u64],
-    parents: &[u64],
-    payloads: &[u64],
+    rows: &[u64],
+    values: &[u64],
     fields: &[usize],
     i: usize,
     n: usize,
@@ -133,8 +130,10 @@ fn parse_other(
     desc: FieldDesc,
 ) -> EmitAt
     requires { ⌜ k < n ⌝ }
-    requires { ⌜ Fine (now rec) (now places) (now own) (now parents) (now payloads) (now fields) i n ⌝ }
-    ensures { λ r. ⌜ r ≡ otherAt (now (rec .entry)) (rowsOf (now (rec .entry)) (now (places .entry)) (now (own .entry)) (now (parents .entry)) (now (payloads .entry)) (now (fields .entry)) i n) (fieldsOf (now (rec .entry)) (now (places .entry)) (now (own .entry)) (now (parents .entry)) (now (payloads .entry)) (now (fields .entry)) i n) endianness shift (annotatedAt (now (rec .entry)) (now (places .entry)) (now (own .entry)) (now (parents .entry)) (now (payloads .entry)) (now (fields .entry)) i n k .fieldSize) (annotatedAt (now (rec .entry)) (now (places .entry)) (now (own .entry)) (now (parents .entry)) (now (payloads .entry)) (now (fields .entry)) i n k .paddedSize) (getTrailingSize (restAt (now (rec .entry)) (now (places .entry)) (now (own .entry)) (now (parents .entry)) (now (payloads .entry)) (now (fields .entry)) i n (k + 1))) desc ⌝ }
+    requires { let t : Tables = tablesOf (now rec) (now rows) (now values) (now fields) in ⌜ Fine t i n ⌝ }
+    ensures { λ r. let t : Tables = tablesOf (now (rec .entry)) (now (rows .entry)) (now (values .entry)) (now (fields .entry)) in
+        ⌜ r ≡ otherAt (t .source) (rowsOf t i) (fieldsOf t i n) endianness shift (annotatedAt t i n k .fieldSize) (annotatedAt t i n k .paddedSize)
+        (getTrailingSize (restAt t i n (k + 1))) desc ⌝ }
 {
     match desc {
         FieldDesc::Checksum { field_id: _ } => EmitAt::Silent,
@@ -153,10 +152,8 @@ fn parse_other(
         } => EmitAt::Silent,
         FieldDesc::Body => trailing::parse_payload_field_lite(
             rec,
-            places,
-            own,
-            parents,
-            payloads,
+            rows,
+            values,
             fields,
             i,
             n,
@@ -166,10 +163,8 @@ fn parse_other(
         ),
         FieldDesc::Payload { size_modifier } => trailing::parse_payload_field_lite(
             rec,
-            places,
-            own,
-            parents,
-            payloads,
+            rows,
+            values,
             fields,
             i,
             n,
@@ -191,10 +186,8 @@ fn parse_other(
             size,
         } => EmitAt::Appends(array_fields::parse_array_field(
             rec,
-            places,
-            own,
-            parents,
-            payloads,
+            rows,
+            values,
             fields,
             i,
             n,
@@ -210,10 +203,8 @@ fn parse_other(
         FieldDesc::Flag { id: _ } => EmitAt::Silent,
         FieldDesc::Typedef { id, type_id } => trailing::parse_typedef_field(
             rec,
-            places,
-            own,
-            parents,
-            payloads,
+            rows,
+            values,
             fields,
             i,
             n,
@@ -228,10 +219,8 @@ fn parse_other(
 // What field k comes to where it is no bit field, with `shift` bits in the open chunk.
 pub fn parse_unchecked(
     rec: &[u8],
-    places: &[usize],
-    own: &[u64],
-    parents: &[u64],
-    payloads: &[u64],
+    rows: &[u64],
+    values: &[u64],
     fields: &[usize],
     i: usize,
     n: usize,
@@ -240,27 +229,15 @@ pub fn parse_unchecked(
     endianness: EndiannessValue,
 ) -> EmitAt
     requires { ⌜ k < n ⌝ }
-    requires { ⌜ Fine (now rec) (now places) (now own) (now parents) (now payloads) (now fields) i n ⌝ }
-    ensures { λ r. ⌜ r ≡ parsedAt (now (rec .entry)) (now (places .entry)) (now (own .entry)) (now (parents .entry)) (now (payloads .entry)) (now (fields .entry)) i n k shift endianness ⌝ }
+    requires { let t : Tables = tablesOf (now rec) (now rows) (now values) (now fields) in ⌜ Fine t i n ⌝ }
+    ensures { λ r. let t : Tables = tablesOf (now (rec .entry)) (now (rows .entry)) (now (values .entry)) (now (fields .entry)) in
+        ⌜ r ≡ parsedAt t i n k shift endianness ⌝ }
 {
-    let f = references::field_in(rec, fields, i, k);
+    let f = references::field_in(values, fields, i, k);
     let cond = f.cond;
     let desc = f.desc;
     match cond {
-        Cond::None => parse_other(
-            rec,
-            places,
-            own,
-            parents,
-            payloads,
-            fields,
-            i,
-            n,
-            k,
-            shift,
-            endianness,
-            desc,
-        ),
-        Cond::Some { id, value } => parse_optional_field(rec, places, i, id, value, desc),
+        Cond::None => parse_other(rec, rows, values, fields, i, n, k, shift, endianness, desc),
+        Cond::Some { id, value } => parse_optional_field(rec, rows, i, id, value, desc),
     }
 }

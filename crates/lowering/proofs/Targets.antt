@@ -7,12 +7,11 @@ use mathlib.Core.List.{List}
 use mathlib.Core.Path.{_≡_, refl, sym, ap, _∙_, subst}
 use native.Mathlib.Nat.{add-zero, sub-zero}
 use native.Mathlib.Omega.{arith}
-use lib.ListN.{getD}
 use Rattle.definitions.specs.Bytes.{Text, any}
 use Rattle.definitions.specs.Record.{onFound}
-use Rattle.definitions.specs.Sizes.{Schema, Annotated, sameName, annotateFields, newSchema}
+use Rattle.definitions.specs.Sizes.{Schema, Entry, Annotated, sameName, annotateFields, newSchema}
 use Rattle.definitions.specs.Refusals.{number, tooLarge, largeField, largeRow, largeEntry, staticSum, large, ragged, isFrame}
-use Rattle.definitions.specs.Tables.{fieldsFrom, declarationsFrom}
+use Rattle.definitions.specs.Tables.{encode}
 use Rattle.definitions.specs.FieldParser.{Outcome, refused, lowerFields}
 use Rattle.definitions.specs.Answer.{lowerTarget, lowerIn}
 use Rattle.definitions.specs.declared.Found.{Found}
@@ -20,12 +19,15 @@ use Rattle.definitions.specs.declared.Head.{Head}
 use Rattle.definitions.specs.declared.Part.{Part}
 use Rattle.definitions.specs.declared.Refusal.{Refusal}
 use Rattle.bits.proofs.Booleans.{or-left, or-right}
-use Rattle.schema.specs.Entries.{entryIn, entriesFrom}
+use Rattle.tables.specs.Tables.{fieldsFrom, countHere, declarationsFrom, Tables, tablesOf, rowsOf, fieldsOf}
+use Rattle.tables.proofs.Sized.{count-sized}
+use Rattle.schema.specs.Entries.{entryIn, entriesFrom, entrySizes, nextEntry, putRow, sizedRows}
+use Rattle.schema.specs.declared.RowSizes.{RowSizes}
 use Rattle.sizes.specs.Answers.{targetFrom, targetOr, behindSchema, checkSizes, Checked}
 use Rattle.sizes.specs.declared.Sizing.{Sizing}
 use Rattle.sizes.proofs.Targets.{lower-target}
 use Rattle.sizes.proofs.Fine.{entry-fine}
-use Rattle.emits.specs.Target.{rowsOf, fieldsOf, settingAt, restAt, Fine}
+use Rattle.emits.specs.Target.{settingAt, restAt, Fine}
 use Rattle.lowering.specs.Steps.{Answers, Few, Ready, lowerSized}
 use Rattle.lowering.proofs.Passes.{refuses-all}
 
@@ -46,15 +48,15 @@ chosen s h schema i = by (large schema) (ragged s schema) (targetFrom s (h .targ
     by false false Found.Nothing k = absurd (let z : _≡_ {A = ℕ} 0 1 = cc in omega arith)
 
 -- the target's index is one of the table's
-within : (s : Text) (name : Part) (p f c own par pay : List ℕ) (j m i : ℕ) → targetFrom s name j (entriesFrom s p f c own par pay j m) ≡ Found.At i → i < j + m
+within : (s : Text) (name : Part) (rows v f : List ℕ) (j m i : ℕ) → targetFrom s name j (entriesFrom s rows v f j m) ≡ Found.At i → i < j + m
 unfolding targetFrom entriesFrom
-within s name p f c own par pay j zero i e = absurd (let z : _≡_ {A = ℕ} 0 1 = cc in omega arith)
-within s name p f c own par pay j (suc m) i e =
-    by (sameName s (entryIn s p f c own par pay j .row .decl .id) name && isFrame (entryIn s p f c own par pay j .row .decl .desc)) e
-    (λ k. within s name p f c own par pay (j + 1) m i k)
+within s name rows v f j zero i e = absurd (let z : _≡_ {A = ℕ} 0 1 = cc in omega arith)
+within s name rows v f j (suc m) i e =
+    by (sameName s (entryIn s rows v f j .row .decl .id) name && isFrame (entryIn s rows v f j .row .decl .desc)) e
+    (λ k. within s name rows v f (j + 1) m i k)
   where
-    by : (b : Bool) → _≡_ {A = Found} (elim b [ true ↦ Found.At j | false ↦ targetFrom s name (j + 1) (entriesFrom s p f c own par pay (j + 1) m) ]) (Found.At i)
-        → (targetFrom s name (j + 1) (entriesFrom s p f c own par pay (j + 1) m) ≡ Found.At i → i < j + 1 + m) → i < j + suc m
+    by : (b : Bool) → _≡_ {A = Found} (elim b [ true ↦ Found.At j | false ↦ targetFrom s name (j + 1) (entriesFrom s rows v f (j + 1) m) ]) (Found.At i)
+        → (targetFrom s name (j + 1) (entriesFrom s rows v f (j + 1) m) ≡ Found.At i → i < j + 1 + m) → i < j + suc m
     by true k further = let q : j ≡ i = cc in omega arith
     by false k further = omega (arith, further k)
 
@@ -66,69 +68,92 @@ sized-target : (s : Text) (h : Head) (schema : Schema) (i : ℕ) → checkSizes 
 unfolding lowerSized
 sized-target s h schema i e = rw (e, lowerSized)
 
--- ---- over the tables of n declarations
+-- the numbers of fields stay as they were
+count-left : (s rows v f : List ℕ) (j m i : ℕ) → countHere (sizedRows s rows v f j m) i ≡ countHere rows i
+unfolding sizedRows
+count-left s rows v f j zero i = refl
+count-left s rows v f j (suc m) i = by (largeEntry (nextEntry s rows v f j)) (count-left s next v f (j + 1) m i)
+  where
+    sizes : RowSizes
+    sizes = entrySizes (nextEntry s rows v f j)
 
-module _ (s : Text) (h : Head) (p f c own par pay : List ℕ) (n : ℕ) {x : Sizing}
-    (k : Checked s h (declarationsFrom s p f c 0 n) (entriesFrom s p f c own par pay 0 n) x) where
-  pub check-refused : {why : Refusal} → x ≡ Sizing.Refuse why → {out : Text} {r : ℕ} → r ≡ number why * 2 ^ 32
-      → Answers (lowerSized s h (newSchema s (declarationsFrom s p f c 0 n))) out r out
+    next : List ℕ
+    next = putRow rows j sizes
+
+    by : (b : Bool) → countHere (sizedRows s next v f (j + 1) m) i ≡ countHere next i
+        → countHere (elim b [ true ↦ rows | false ↦ sizedRows s next v f (j + 1) m ]) i ≡ countHere rows i
+    by true k = refl
+    by false k = k ∙ count-sized rows j (encode (sizes .own)) (encode (sizes .parent)) (encode (sizes .payload)) i
+
+-- ---- over the tables of n declarations, with the rows `rows` that the sizes were written into
+
+module _ (s : Text) (h : Head) (before v f : List ℕ) (n : ℕ) (rows : List ℕ) {x : Sizing} (k : Checked s h before v f n rows x) where
+  abbrev tables : Tables
+  tables = tablesOf s rows v f
+
+  abbrev schema : Schema
+  schema = newSchema s (declarationsFrom before v f 0 n)
+
+  pub check-refused : {why : Refusal} → x ≡ Sizing.Refuse why → {out : Text} {r : ℕ} → r ≡ number why * 2 ^ 32 → Answers (lowerSized s h schema) out r out
   check-refused {why} hx {out} {r} e =
-      subst (λ (o : Outcome). Answers o out r out) (sym (sized-refused s h (newSchema s (declarationsFrom s p f c 0 n)) why (sym (k .answer) ∙ hx)))
-      (refuses-all why out e)
+      subst (λ (o : Outcome). Answers o out r out) (sym (sized-refused s h schema why (sym (k .answer) ∙ hx))) (refuses-all why out e)
 
   module _ {i : ℕ} (hx : x ≡ Sizing.Target i) where
-    is-chosen : (large (newSchema s (declarationsFrom s p f c 0 n)) ≡ false) × (targetFrom s (h .target) 0 (newSchema s (declarationsFrom s p f c 0 n)) ≡ Found.At i)
-    is-chosen = chosen s h (newSchema s (declarationsFrom s p f c 0 n)) i (sym (k .answer) ∙ hx)
+    is-chosen : (large schema ≡ false) × (targetFrom s (h .target) 0 schema ≡ Found.At i)
+    is-chosen = chosen s h schema i (sym (k .answer) ∙ hx)
 
-    same : entriesFrom s p f c own par pay 0 n ≡ newSchema s (declarationsFrom s p f c 0 n)
+    same : entriesFrom s rows v f 0 n ≡ schema
     same = k .tables (is-chosen .0)
 
-    found : targetFrom s (h .target) 0 (entriesFrom s p f c own par pay 0 n) ≡ Found.At i
+    found : targetFrom s (h .target) 0 (entriesFrom s rows v f 0 n) ≡ Found.At i
     found = ap (targetFrom s (h .target) 0) same ∙ is-chosen .1
 
     target-within : i < n
-    target-within = omega (arith, within s (h .target) p f c own par pay 0 n i found)
+    target-within = omega (arith, within s (h .target) rows v f 0 n i found)
+
+    abbrev entry : Entry
+    entry = entryIn s rows v f i
+
+    abbrev count : ℕ
+    count = countHere rows i
 
     -- `restAt` from the first field on
-    rest-all : restAt s p own par pay f i (getD c i 0) 0 ≡ entryIn s p f c own par pay i .fields
+    rest-all : restAt tables i count 0 ≡ entry .fields
     rest-all =
-        ap (λ (j : ℕ). annotateFields s (rowsOf s p own par pay f i (getD c i 0)) (fieldsOf s p own par pay f i (getD c i 0)) (fieldsFrom s f j (getD c i 0 - 0))) (add-zero (i * 64))
-        ∙ ap (λ (m : ℕ). annotateFields s (rowsOf s p own par pay f i (getD c i 0)) (fieldsOf s p own par pay f i (getD c i 0)) (fieldsFrom s f (i * 64) m)) (sub-zero (getD c i 0))
+        ap (λ (j : ℕ). annotateFields s (rowsOf tables i) (fieldsOf tables i count) (fieldsFrom v f j (count - 0))) (add-zero (i * 64))
+        ∙ ap (λ (m : ℕ). annotateFields s (rowsOf tables i) (fieldsOf tables i count) (fieldsFrom v f (i * 64) m)) (sub-zero count)
 
-    not-large : largeEntry (entryIn s p f c own par pay i) ≡ false
-    not-large = entry-fine s p f c own par pay n i target-within (ap large same ∙ is-chosen .0)
+    not-large : largeEntry entry ≡ false
+    not-large = entry-fine s rows v f n i target-within (ap large same ∙ is-chosen .0)
 
-    target-fine : {m : ℕ} → m ≡ getD c i 0 → Fine s p own par pay f i m
-    target-fine e = subst (λ (m : ℕ). Fine s p own par pay f i m) (sym e) (record {
+    target-fine : {m : ℕ} → m ≡ count → Fine tables i m
+    target-fine e = subst (λ (m : ℕ). Fine tables i m) (sym e) (record {
       sizes =
           ap (any largeField) rest-all
-          ∙ or-left (any largeField (entryIn s p f c own par pay i .fields)) (largeRow (entryIn s p f c own par pay i .row))
-          (or-left (any largeField (entryIn s p f c own par pay i .fields) || largeRow (entryIn s p f c own par pay i .row))
-          (tooLarge (staticSum (entryIn s p f c own par pay i .fields))) not-large);
+          ∙ or-left (any largeField (entry .fields)) (largeRow (entry .row))
+          (or-left (any largeField (entry .fields) || largeRow (entry .row)) (tooLarge (staticSum (entry .fields))) not-large);
       sum =
           ap (λ (xs : List Annotated). tooLarge (staticSum xs)) rest-all
-          ∙ or-right (any largeField (entryIn s p f c own par pay i .fields) || largeRow (entryIn s p f c own par pay i .row))
-          (tooLarge (staticSum (entryIn s p f c own par pay i .fields))) not-large;
+          ∙ or-right (any largeField (entry .fields) || largeRow (entry .row)) (tooLarge (staticSum (entry .fields))) not-large;
     })
 
-    target-lowered : lowerFields (settingAt s p own par pay f i (getD c i 0) (h .endianness) (h .arrays)) (restAt s p own par pay f i (getD c i 0) 0)
-        ≡ lowerSized s h (newSchema s (declarationsFrom s p f c 0 n))
+    target-lowered : lowerFields (settingAt tables i count (h .endianness) (h .arrays)) (restAt tables i count 0) ≡ lowerSized s h schema
     target-lowered =
-        ap (lowerFields (settingAt s p own par pay f i (getD c i 0) (h .endianness) (h .arrays))) rest-all
-        ∙ sym (ap (λ (r : Found). onFound r (refused Refusal.NoTarget) (λ k. lowerTarget s h (entryIn s p f c own par pay k))) found)
-        ∙ sym (lower-target s h p f c own par pay 0 n)
+        ap (lowerFields (settingAt tables i count (h .endianness) (h .arrays))) rest-all
+        ∙ sym (ap (λ (r : Found). onFound r (refused Refusal.NoTarget) (λ k. lowerTarget s h (entryIn s rows v f k))) found)
+        ∙ sym (lower-target s h rows v f 0 n)
         ∙ ap (lowerIn s h) same
-        ∙ sym (sized-target s h (newSchema s (declarationsFrom s p f c 0 n)) i (sym (k .answer) ∙ hx))
+        ∙ sym (sized-target s h schema i (sym (k .answer) ∙ hx))
 
-    pub target-answers : {m : ℕ} → m ≡ getD c i 0 → {out left : Text} {r : ℕ}
-        → Answers (lowerFields (settingAt s p own par pay f i m (h .endianness) (h .arrays)) (restAt s p own par pay f i m 0)) out r left
-        → Answers (lowerSized s h (newSchema s (declarationsFrom s p f c 0 n))) out r left
+    pub target-answers : {m : ℕ} → m ≡ count → {out left : Text} {r : ℕ}
+        → Answers (lowerFields (settingAt tables i m (h .endianness) (h .arrays)) (restAt tables i m 0)) out r left
+        → Answers (lowerSized s h schema) out r left
     target-answers {m} e {out} {left} {r} a =
         subst (λ (o : Outcome). Answers o out r left) target-lowered
-        (subst (λ (m : ℕ). Answers (lowerFields (settingAt s p own par pay f i m (h .endianness) (h .arrays)) (restAt s p own par pay f i m 0)) out r left) e a)
+        (subst (λ (m : ℕ). Answers (lowerFields (settingAt tables i m (h .endianness) (h .arrays)) (restAt tables i m 0)) out r left) e a)
 
-    pub target-ready : Few c n → {m : ℕ} → m ≡ getD c i 0 → Ready s p own par pay f i m
+    pub target-ready : Few before n → {m : ℕ} → m ≡ count → Ready tables i m
     target-ready few e = record {
       fine = target-fine e;
-      short = omega (arith, few .fields i target-within, e);
+      short = omega (arith, few .fields i target-within, e, ap (λ (l : List ℕ). countHere l i) (k .left), count-left s before v f 0 n i);
     }

@@ -3,7 +3,7 @@
 use mathlib.Core.List.{List}
 use mathlib.Core.Path.{_≡_}
 use Prim.Native.Nat.{ℕ, _≤_, _<_}
-use lib.ListN.{length, getD}
+use lib.ListN.{length}
 use Rattle.definitions.specs.Bytes.{Text}
 use Rattle.definitions.specs.Sizes.{Schema}
 use Rattle.definitions.specs.FieldParser.{Outcome, refused}
@@ -11,6 +11,7 @@ use Rattle.definitions.specs.Answer.{lowerIn, lowered, word, bufferAfter}
 use Rattle.definitions.specs.declared.Head.{Head}
 use Rattle.sizes.specs.Answers.{checkSizes}
 use Rattle.sizes.specs.declared.Sizing.{Sizing}
+use Rattle.tables.specs.Tables.{countHere, Tables}
 use Rattle.emits.specs.Target.{Fine}
 
 -- the number and the buffer for an outcome: 15 on top
@@ -22,12 +23,12 @@ pub record Answers (o : Outcome) (out : Text) (r : ℕ) (left : Text) : Type 0 w
 unfoldable pub lowerSized : Text → Head → Schema → Outcome
 lowerSized s h schema = elim (checkSizes s h schema) [ Sizing.Target i ↦ lowerIn s h schema | Sizing.Refuse why ↦ refused why ]
 
--- behind refusal 3: the tables of n declarations
-pub record Few (counts : List ℕ) (n : ℕ) : Type 0 where
+-- behind refusal 3: the rows of n declarations
+pub record Few (rows : List ℕ) (n : ℕ) : Type 0 where
   pub declarations : n ≤ 32
-  pub fields : (i : ℕ) → i < n → getD counts i 0 ≤ 64
+  pub fields : (i : ℕ) → i < n → countHere rows i ≤ 64
 
 -- behind refusals 3 and 7: the target, of n fields
-pub record Ready (s : Text) (places own parents payloads fields : List ℕ) (i n : ℕ) : Type 0 where
+pub record Ready (t : Tables) (i n : ℕ) : Type 0 where
   pub short : n ≤ 64
-  pub fine : Fine s places own parents payloads fields i n
+  pub fine : Fine t i n

@@ -1,5 +1,5 @@
-// `lower` (document 01, module 6): the record's bytes in, the lines of its target's C++ parser out. The reader, the size tables and the parser each turn
-// a record back by their refusals; here the tables are lent to them, 15 is tested, and number and length come to one 64-bit number.
+// `lower` (document 01, module 6): the record's bytes in, the lines of its target's C++ parser out. The reader, the sizes and the parser each turn a
+// record back by their refusals; here the tables are lent to them, 15 is tested, and number and length come to one 64-bit number.
 
 use definitions::Arrays;
 use definitions::EndiannessValue;
@@ -13,9 +13,10 @@ ghost use Prim.Native.Nat.{_*_, _≤_, _^_};
 ghost use lib.ListN.{length};
 ghost use Rattle.definitions.specs.Refusals.{number};
 ghost use Rattle.definitions.specs.Sizes.{newSchema};
-ghost use Rattle.definitions.specs.Tables.{declarationsFrom};
 ghost use Rattle.definitions.specs.FieldParser.{lowerFields};
 ghost use Rattle.definitions.specs.Answer.{lower as answered, word, bufferAfter};
+ghost use Rattle.tables.specs.Tables.{declarationsFrom, Tables, tablesOf};
+ghost use Rattle.record.specs.Reader.{valuesRoom};
 ghost use Rattle.emits.specs.Target.{settingAt, restAt};
 ghost use Rattle.lowering.specs.Steps.{Answers, Few, Ready, lowerSized};
 
@@ -58,32 +59,18 @@ fn write_lines(
     out: &mut [u8],
     order: EndiannessValue,
     m: Arrays,
-    places: &[usize],
-    own: &[u64],
-    parents: &[u64],
-    payloads: &[u64],
+    rows: &[u64],
+    values: &[u64],
     fields: &[usize],
     i: usize,
     n: usize,
 ) -> u64
-    requires { ⌜ Ready (now rec) (now places) (now own) (now parents) (now payloads) (now fields) i n ⌝ }
-    ensures { λ r. ⌜ Answers (lowerFields (settingAt (now (rec .entry)) (now (places .entry)) (now (own .entry)) (now (parents .entry)) (now (payloads .entry)) (now (fields .entry)) i n order m) (restAt (now (rec .entry)) (now (places .entry)) (now (own .entry)) (now (parents .entry)) (now (payloads .entry)) (now (fields .entry)) i n 0)) (now (out .entry)) r (now (out .exit)) ⌝ }
+    requires { let t : Tables = tablesOf (now rec) (now rows) (now values) (now fields) in ⌜ Ready t i n ⌝ }
+    ensures { λ r. let t : Tables = tablesOf (now (rec .entry)) (now (rows .entry)) (now (values .entry)) (now (fields .entry)) in
+        ⌜ Answers (lowerFields (settingAt t i n order m) (restAt t i n 0)) (now (out .entry)) r (now (out .exit)) ⌝ }
 {
     let mut none = [0u8; 0];
-    let first = parser::lower_target(
-        rec,
-        &mut none,
-        0,
-        order,
-        m,
-        places,
-        own,
-        parents,
-        payloads,
-        fields,
-        i,
-        n,
-    );
+    let first = parser::lower_target(rec, &mut none, 0, order, m, rows, values, fields, i, n);
     let verdict = first.verdict;
     match verdict {
         Verdict::Refuse(why) => turned_back(why),
@@ -91,20 +78,7 @@ fn write_lines(
             if out.len() < first.at {
                 return turned_back(Refusal::NoRoom);
             }
-            let second = parser::lower_target(
-                rec,
-                out,
-                0,
-                order,
-                m,
-                places,
-                own,
-                parents,
-                payloads,
-                fields,
-                i,
-                n,
-            );
+            let second = parser::lower_target(rec, out, 0, order, m, rows, values, fields, i, n);
             second.at as u64
         }
     }
@@ -117,60 +91,54 @@ fn lower_read(
     rec: &[u8],
     out: &mut [u8],
     head: Head,
-    places: &[usize; 32],
+    rows: &mut [u64; 352],
+    values: &[u64],
     fields: &[usize; 2048],
-    counts: &[usize; 32],
     n: usize,
 ) -> u64
-    requires { ⌜ Few (now counts) n ⌝ }
-    ensures { λ r. ⌜ Answers (lowerSized (now (rec .entry)) head (newSchema (now (rec .entry)) (declarationsFrom (now (rec .entry)) (now (places .entry)) (now (fields .entry)) (now (counts .entry)) 0 n))) (now (out .entry)) r (now (out .exit)) ⌝ }
+    requires { ⌜ Few (now rows) n ⌝ }
+    ensures { λ r. let t : Tables = tablesOf (now (rec .entry)) (now (rows .entry)) (now (values .entry)) (now (fields .entry)) in
+        ⌜ Answers (lowerSized (t .source) head (newSchema (t .source) (declarationsFrom (t .rows) (t .values) (t .fields) 0 n)))
+        (now (out .entry)) r (now (out .exit)) ⌝ }
 {
-    let mut own = [0u64; 32];
-    let mut parents = [0u64; 32];
-    let mut payloads = [0u64; 32];
-    match sizes::check_sizes(
-        rec,
-        head,
-        places,
-        fields,
-        counts,
-        n,
-        &mut own,
-        &mut parents,
-        &mut payloads,
-    ) {
+    match sizes::check_sizes(rec, head, rows, values, fields, n) {
         Sizing::Refuse(why) => turned_back(why),
         Sizing::Target(i) => {
-            let count = places::get(counts, i);
+            let count = tables::count_here(rows, i);
             let order = head.endianness;
             let m = head.arrays;
-            write_lines(
-                rec,
-                out,
-                order,
-                m,
-                places,
-                &own,
-                &parents,
-                &payloads,
-                fields,
-                i,
-                count,
-            )
+            write_lines(rec, out, order, m, rows, values, fields, i, count)
         }
     }
 }
 
+// With room for the values of the record's fields.
+fn lower_in(rec: &[u8], out: &mut [u8], values: &mut [u64]) -> u64
+    requires { ⌜ valuesRoom (now rec) ≤ length (now values) ⌝ }
+    ensures { λ r. ⌜ (r ≡ word (answered (now (rec .entry)) (length (now (out .entry))))) × (now (out .exit) ≡ bufferAfter (answered (now (rec .entry)) (length (now (out .entry)))) (now (out .entry))) ⌝ }
+{
+    let mut rows = [0u64; 352];
+    let mut fields = [0usize; 2048];
+    match record::read_record(rec, &mut rows, values, &mut fields) {
+        Reading::Refuse(why) => turned_back(why),
+        Reading::Pass(head, n) => lower_read(rec, out, head, &mut rows, values, &fields, n),
+    }
+}
+
 // The number is the answer times 2^32 plus the length of the lines, which stand at the front of `out`; all behind them is as it was.
+// A field has 16 bytes or more and 17 numbers: three sizes of the table of values spare short records the clearing of the largest.
 #[no_mangle]
 pub extern "C" fn lower(rec: &[u8], out: &mut [u8]) -> u64
     ensures { λ r. ⌜ (r ≡ word (answered (now (rec .entry)) (length (now (out .entry))))) × (now (out .exit) ≡ bufferAfter (answered (now (rec .entry)) (length (now (out .entry)))) (now (out .entry))) ⌝ }
 {
-    let mut places = [0usize; 32];
-    let mut fields = [0usize; 2048];
-    let mut counts = [0usize; 32];
-    match record::read_record(rec, &mut places, &mut fields, &mut counts) {
-        Reading::Refuse(why) => turned_back(why),
-        Reading::Pass(head, n) => lower_read(rec, out, head, &places, &fields, &counts, n),
+    if rec.len() <= 1024 {
+        let mut values = [0u64; 1088];
+        return lower_in(rec, out, &mut values);
     }
+    if rec.len() <= 4096 {
+        let mut values = [0u64; 4352];
+        return lower_in(rec, out, &mut values);
+    }
+    let mut values = [0u64; 17408];
+    lower_in(rec, out, &mut values)
 }

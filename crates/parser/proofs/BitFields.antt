@@ -17,7 +17,6 @@ use Rattle.definitions.specs.declared.Field.{Field}
 use Rattle.definitions.specs.declared.Part.{Part}
 use Rattle.definitions.specs.declared.Size.{Size}
 use Rattle.definitions.specs.declared.Verdict.{Verdict}
-use Rattle.definitions.specs.Tables.{rowsFrom}
 use Rattle.text.proofs.Puts.{like}
 use Rattle.stream.specs.Stream.{ahead, runBits, widthOf, stream}
 use Rattle.stream.specs.Stream as flow
@@ -34,7 +33,8 @@ use Rattle.chunks.proofs.Within.{Within, within-bit, within-ready, run-below}
 use Rattle.conditions.specs.IfNames.{condNames}
 use Rattle.field_kinds.specs.KindOf.{kindAt}
 use Rattle.field_kinds.proofs.Agree.{kinds-agree}
-use Rattle.emits.specs.Target.{rowsOf, fieldsOf, settingAt, restAt, fieldIn, annotatedAt}
+use Rattle.tables.specs.Tables.{Tables, tablesOf, rowsOf, fieldsOf}
+use Rattle.emits.specs.Target.{settingAt, restAt, fieldIn, annotatedAt}
 use Rattle.emits.proofs.Rests.{rest-step}
 use Rattle.runs.proofs.Later.{later-below, advance-later}
 use Rattle.parser.specs.Driver.{seen, ifPasses, bitStep, spelt, Going, Turn, laterAt, from, speltFrom, Parsed}
@@ -58,34 +58,36 @@ module _ (m : Arrays) (s : Text) (order : EndiannessValue) (t : State) (kinds : 
       → ChunkClosed m s (text "payload") order t kinds x out at r left
   closed-with {out} {left} {at} {r} d = subst (λ (y : ℕ). ChunkClosed m s (text "payload") order t kinds y out at r left) e d
 
-module _ (s places own parents payloads fields : List ℕ) (i n : ℕ) where
+module _ (s rows values fields : List ℕ) (i n : ℕ) where
+  abbrev tables : Tables
+  tables = tablesOf s rows values fields
+
   abbrev rest : ℕ → List Annotated
-  rest = restAt s places own parents payloads fields i n
+  rest = restAt tables i n
 
   abbrev here : ℕ → Annotated
-  here = annotatedAt s places own parents payloads fields i n
+  here = annotatedAt tables i n
 
-  abbrev rows : List Row
-  rows = rowsOf s places own parents payloads fields i n
+  abbrev scope : List Row
+  scope = rowsOf tables i
 
   abbrev all : List Field
-  all = fieldsOf s places own parents payloads fields i n
+  all = fieldsOf tables i n
 
   -- what `is_bit` says
   module _ (order : EndiannessValue) (m : Arrays) (f : Field) {b : Bool}
-      (eb : (own parents payloads fields : List ℕ) (n : ℕ) (order : EndiannessValue) (m : Arrays)
-      → b ≡ isBit (settingAt s places own parents payloads fields i n order m) f) where
-    pub is-bit-yes : b ≡ true → isBit (settingAt s places own parents payloads fields i n order m) f ≡ true
-    is-bit-yes h = sym (eb own parents payloads fields n order m) ∙ h
+      (eb : (values fields : List ℕ) (n : ℕ) (order : EndiannessValue) (m : Arrays) → b ≡ isBit (settingAt (tablesOf s rows values fields) i n order m) f) where
+    pub is-bit-yes : b ≡ true → isBit (settingAt tables i n order m) f ≡ true
+    is-bit-yes h = sym (eb values fields n order m) ∙ h
 
-    pub is-bit-no : b ≡ false → {a : Field} → f ≡ a → isBit (settingAt s places own parents payloads fields i n order m) a ≡ false
-    is-bit-no h e = ap (isBit (settingAt s places own parents payloads fields i n order m)) (sym e) ∙ sym (eb own parents payloads fields n order m) ∙ h
+    pub is-bit-no : b ≡ false → {a : Field} → f ≡ a → isBit (settingAt tables i n order m) a ≡ false
+    is-bit-no h e = ap (isBit (settingAt tables i n order m)) (sym e) ∙ sym (eb values fields n order m) ∙ h
 
   -- the width, by the field's size
-  module _ (k : ℕ) {f : Field} (ef : f ≡ fieldIn s places own parents payloads fields i n k) {z : Size} (ez : z ≡ annotateField s rows all f) {x : ℕ} (ex : x ≡ staticWidth z)
+  module _ (k : ℕ) {f : Field} (ef : f ≡ fieldIn tables i n k) {z : Size} (ez : z ≡ annotateField s scope all f) {x : ℕ} (ex : x ≡ staticWidth z)
       (t : State) where
     width : x ≡ widthOf (here k)
-    width = ex ∙ ap staticWidth (ez ∙ ap (annotateField s rows all) ef)
+    width = ex ∙ ap staticWidth (ez ∙ ap (annotateField s scope all) ef)
 
     pub width-fits : t .shift + widthOf (here k) < 2 ^ 64 → t .shift + x < 2 ^ 64
     width-fits h = omega (arith, width, h)
@@ -95,13 +97,13 @@ module _ (s places own parents payloads fields : List ℕ) (i n : ℕ) where
 
   module _ (order : EndiannessValue) (m : Arrays) (k : ℕ) where
     abbrev c : Setting
-    c = settingAt s places own parents payloads fields i n order m
+    c = settingAt tables i n order m
 
     pub sums : k < n → staticSum (rest k) ≡ widthOf (here k) + staticSum (rest (k + 1))
     unfolding staticSum
-    sums h = ap staticSum (rest-step s places own parents payloads fields i n k h) ∙ ap (λ (w : ℕ). w + staticSum (rest (k + 1))) (sym (same-bits (here k .fieldSize)))
+    sums h = ap staticSum (rest-step s rows values fields i n k h) ∙ ap (λ (w : ℕ). w + staticSum (rest (k + 1))) (sym (same-bits (here k .fieldSize)))
 
-    pub within : (t : State) (kinds : List Held) → Going s places own parents payloads fields i n m k t kinds → Within (seen m s t kinds) k (t .shift)
+    pub within : (t : State) (kinds : List Held) → Going tables i n m k t kinds → Within (seen m s t kinds) k (t .shift)
     within t kinds g = record {
       fields = omega (arith, g .few, bits-length m s (text "payload") (t .chunk) kinds (t .chunk .len));
       sum = g .sum;
@@ -111,7 +113,7 @@ module _ (s places own parents payloads fields : List ℕ) (i n : ℕ) where
 
     -- and back, at the next field
     pub going-by : (t : State) (kinds : List Held) {bits : ℕ} → Within (seen m s t kinds) (k + 1) bits → bits + staticSum (rest (k + 1)) < 2 ^ 31
-        → Long t kinds → Going s places own parents payloads fields i n m (k + 1) t kinds
+        → Long t kinds → Going tables i n m (k + 1) t kinds
     going-by t kinds w fits long = record {
       few = omega (arith, w .fields, bits-length m s (text "payload") (t .chunk) kinds (t .chunk .len));
       numbers = w .chunks;
@@ -124,15 +126,15 @@ module _ (s places own parents payloads fields : List ℕ) (i n : ℕ) where
     w = widthOf (here k)
 
     -- what `grow` and `close` ask
-    module _ {t : State} {kinds : List Held} (turn : Turn s places own parents payloads fields i n m k t kinds) where
+    module _ {t : State} {kinds : List Held} (turn : Turn tables i n m k t kinds) where
       h : k < n
       h = turn .inside
 
-      g : Going s places own parents payloads fields i n m k t kinds
+      g : Going tables i n m k t kinds
       g = turn .going
 
       abbrev later : ℕ
-      later = laterAt s places own parents payloads fields i n order m k (grownState t w)
+      later = laterAt tables i n order m k (grownState t w)
 
       pub room : t .chunk .len < 64
       room = omega (arith, h, turn .bounded, g .few)
@@ -152,17 +154,17 @@ module _ (s places own parents payloads fields : List ℕ) (i n : ℕ) where
           ))
 
       module _ (kind : KindAt) {u : State} (eu : u ≡ grownState t w) where
-        pub bit-closing : Closing m s (text "payload") u (grownKinds t kinds kind) (laterAt s places own parents payloads fields i n order m k u)
+        pub bit-closing : Closing m s (text "payload") u (grownKinds t kinds kind) (laterAt tables i n order m k u)
         bit-closing =
-            subst (λ (x : State). Closing m s (text "payload") u (grownKinds t kinds kind) (laterAt s places own parents payloads fields i n order m k x))
+            subst (λ (x : State). Closing m s (text "payload") u (grownKinds t kinds kind) (laterAt tables i n order m k x))
             (sym eu) (closing m s (text "payload") order t kinds kind w later bit-ready eu)
 
         -- what the field comes to
-        module _ {f : Field} (ef : f ≡ fieldIn s places own parents payloads fields i n k) (eb : isBit c f ≡ true) {names : List Part}
-            (en : names ≡ condNames all) (ek : (own parents payloads : List ℕ) → kind ≡ kindAt s (rowsFrom s places own parents payloads 0 i) names (f .desc)) where
+        module _ {f : Field} (ef : f ≡ fieldIn tables i n k) (eb : isBit c f ≡ true) {names : List Part}
+            (en : names ≡ condNames all) (ek : kind ≡ kindAt s scope names (f .desc)) where
           kind-is : kindIn m s (text "payload") kind ≡ kindOf c (here k .field .desc)
           kind-is =
-              ap (kindIn m s (text "payload")) (ek own parents payloads ∙ ap (λ (names : List Part). kindAt s rows names (f .desc)) en)
+              ap (kindIn m s (text "payload")) (ek ∙ ap (λ (names : List Part). kindAt s scope names (f .desc)) en)
               ∙ kinds-agree c (f .desc)
               ∙ ap (λ (x : Field). kindOf c (x .desc)) ef
 
@@ -175,17 +177,17 @@ module _ (s places own parents payloads fields : List ℕ) (i n : ℕ) where
               ∙ advance-later order (kindOf c (here k .field .desc)) w (runBits c (rest (k + 1))) (seen m s t kinds)
 
           bit-parsed : {out left : Text} {at : ℕ} {r : Step} {held : List Held} → BitParsed m s (text "payload") order t kinds kind w later out at r held left
-              → Parsed s places own parents payloads fields i n order m k t kinds out at r held left
+              → Parsed tables i n order m k t kinds out at r held left
           bit-parsed {out} {left} {at} {r} {held} d =
               let v : r .verdict ≡ step .verdict = d .verdict-is ∙ ap (λ (x : Advance). x .verdict) advances in
               let a : r .verdict ≡ Verdict.Pass → seen m s (r .state) held ≡ step .after = λ p. d .after p ∙ ap (λ (x : Advance). x .after) advances in
-              let e : from s places own parents payloads fields i n order m k k t kinds
+              let e : from tables i n order m k k t kinds
               ≡ onVerdict (step .verdict) (ahead (step .lines) (stream c (step .after) (rest (k + 1)))) =
-              ap (stream c (seen m s t kinds)) (rest-step s places own parents payloads fields i n k h)
+              ap (stream c (seen m s t kinds)) (rest-step s rows values fields i n k h)
               ∙ bit-advances c (here k) (rest (k + 1)) (seen m s t kinds) (ap (isBit c) (sym ef) ∙ eb) in
-              let texts : speltFrom s places own parents payloads fields i n order m k k t kinds
+              let texts : speltFrom tables i n order m k k t kinds
               ≡ step .lines ++ ifPasses (step .verdict) (spelt c (step .after) (rest (k + 1))) =
-              ap (spelt c (seen m s t kinds)) (rest-step s places own parents payloads fields i n k h)
+              ap (spelt c (seen m s t kinds)) (rest-step s rows values fields i n k h)
               ∙ spelt-bit c (here k) (rest (k + 1)) (seen m s t kinds) (ap (isBit c) (sym ef) ∙ eb) in
               record {
                 lines = step .lines;
@@ -214,18 +216,18 @@ module _ (s places own parents payloads fields : List ℕ) (i n : ℕ) where
 
           -- its chunk stays open
           pub bit-grows : (out : Text) (at : ℕ) → (u .shift % 8 ≡ 0 → ⊥) → length out < 2 ^ 63
-              → Parsed s places own parents payloads fields i n order m k t kinds out at (record { verdict = Verdict.Pass; at = at; state = u })
+              → Parsed tables i n order m k t kinds out at (record { verdict = Verdict.Pass; at = at; state = u })
               (grownKinds t kinds kind) out
           bit-grows out at o l = bit-parsed (stays-open m s (text "payload") order t kinds kind w later bit-ready eu out at o l)
 
           -- its chunk closes
           pub bit-closes : u .shift % 8 ≡ 0 → {out left : Text} {at : ℕ} {r : Step}
-              → ChunkClosed m s (text "payload") order u (grownKinds t kinds kind) (laterAt s places own parents payloads fields i n order m k u) out at r left
-              → Parsed s places own parents payloads fields i n order m k t kinds out at r (grownKinds t kinds kind) left
+              → ChunkClosed m s (text "payload") order u (grownKinds t kinds kind) (laterAt tables i n order m k u) out at r left
+              → Parsed tables i n order m k t kinds out at r (grownKinds t kinds kind) left
           bit-closes o {out} {left} {at} {r} d =
               bit-parsed
               (closes m s (text "payload") order t kinds kind w later bit-ready eu o
               (subst
               (λ (x : State).
-              ChunkClosed m s (text "payload") order u (grownKinds t kinds kind) (laterAt s places own parents payloads fields i n order m k x) out at r left)
+              ChunkClosed m s (text "payload") order u (grownKinds t kinds kind) (laterAt tables i n order m k x) out at r left)
               eu d))

@@ -26,6 +26,7 @@ use Rattle.chunks.specs.declared.Checked.{Checked}
 use Rattle.chunks.specs.declared.Step.{Step}
 use Rattle.chunks.specs.Steps.{newState, codeChecked}
 use Rattle.chunks.proofs.Advances.{onVerdict, new-view, new-long, code-flushes}
+use Rattle.tables.specs.Tables.{Tables, tablesOf}
 use Rattle.emits.specs.Target.{settingAt, restAt, Fine}
 use Rattle.emits.proofs.Rests.{rest-end}
 use Rattle.emits.proofs.Fines.{sum-fine}
@@ -48,12 +49,15 @@ module _ (t : State) (at p : ℕ) {q : Checked} (e : q ≡ codeChecked t) where
   pub done-refuses : (why : Refusal) → q .verdict ≡ Verdict.Refuse why → _≡_ {A = Lowered} (record { verdict = Verdict.Refuse why; at = at }) (doneBy (codeChecked t .verdict) at p)
   done-refuses why h = done-by (Verdict.Refuse why) h
 
-module _ (s places own parents payloads fields : List ℕ) (i n : ℕ) (order : EndiannessValue) (m : Arrays) (out₀ : Text) (at : ℕ) where
+module _ (s rows values fields : List ℕ) (i n : ℕ) (order : EndiannessValue) (m : Arrays) (out₀ : Text) (at : ℕ) where
+  abbrev tables : Tables
+  tables = tablesOf s rows values fields
+
   abbrev c : Setting
-  c = settingAt s places own parents payloads fields i n order m
+  c = settingAt tables i n order m
 
   abbrev rest : ℕ → List Annotated
-  rest = restAt s places own parents payloads fields i n
+  rest = restAt tables i n
 
   -- the stream from a state on
   abbrev left : ℕ → State → List Held → Result
@@ -69,12 +73,12 @@ module _ (s places own parents payloads fields : List ℕ) (i n : ℕ) (order : 
     pub same : length out ≡ length out₀
     pub goes : stream c fresh (rest 0) ≡ ahead lines (left k t kinds)
     pub spells : all-spelt ≡ lines ++ spelt c (seen m s t kinds) (rest k)
-    pub going : Going s places own parents payloads fields i n m k t kinds
+    pub going : Going tables i n m k t kinds
 
   abbrev none : List Held
   none = replicate 64 (record { kind = KindAt.Reserved })
 
-  pub run-start : Fine s places own parents payloads fields i n → {t : State} → t ≡ newState → length out₀ < 2 ^ 63 → Run out₀ at 0 t none
+  pub run-start : Fine tables i n → {t : State} → t ≡ newState → length out₀ < 2 ^ 63 → Run out₀ at 0 t none
   run-start fine e room = subst (λ (x : State). Run out₀ at 0 x none) (sym e) (record {
     lines = [];
     wrote = still out₀ at room;
@@ -85,7 +89,7 @@ module _ (s places own parents payloads fields : List ℕ) (i n : ℕ) (order : 
       few = omega arith;
       numbers = omega arith;
       sum = ap (λ (x : flow.State). widths (x .chunk)) (sym (new-view m s (text "payload") none));
-      fits = omega (arith, sum-fine s places own parents payloads fields i n fine 0 (omega arith));
+      fits = omega (arith, sum-fine s rows values fields i n fine 0 (omega arith));
       long = new-long;
     };
   })
@@ -102,7 +106,7 @@ module _ (s places own parents payloads fields : List ℕ) (i n : ℕ) (order : 
 
   module _ (out : Text) (p k : ℕ) (t : State) (kinds : List Held) (run : Run out p k t kinds) where
     -- field k comes next
-    pub run-ready : (n ≤ 64) × Fine s places own parents payloads fields i n → k < n → Turn s places own parents payloads fields i n m k t kinds
+    pub run-ready : (n ≤ 64) × Fine tables i n → k < n → Turn tables i n m k t kinds
     run-ready z h = record { inside = h; bounded = z .0; fine = z .1; going = run .going }
 
     pub run-room : length out < 2 ^ 63
@@ -125,10 +129,10 @@ module _ (s places own parents payloads fields : List ℕ) (i n : ℕ) (order : 
     run-done h r e =
         subst (λ (x : Lowered). Ends x out) (sym e)
         (finished (codeChecked t .verdict)
-        (ap (stream c (seen m s t kinds)) (rest-end s places own parents payloads fields i n k h) ∙ code-flushes m s (text "payload") t kinds (writes []))
-        (ap (spelt c (seen m s t kinds)) (rest-end s places own parents payloads fields i n k h)))
+        (ap (stream c (seen m s t kinds)) (rest-end s rows values fields i n k h) ∙ code-flushes m s (text "payload") t kinds (writes []))
+        (ap (spelt c (seen m s t kinds)) (rest-end s rows values fields i n k h)))
 
-    module _ {q : Step} {held : List Held} {next : Text} (d : Parsed s places own parents payloads fields i n order m k t kinds out p q held next) where
+    module _ {q : Step} {held : List Held} {next : Text} (d : Parsed tables i n order m k t kinds out p q held next) where
       pub run-stop : {why : Refusal} → q .verdict ≡ Verdict.Refuse why → Ends (record { verdict = Verdict.Refuse why; at = at }) next
       run-stop {why} e =
           ends (record { verdict = Verdict.Refuse why; at = at }) next (run .goes ∙ ap (ahead (run .lines)) (d .stops why e))

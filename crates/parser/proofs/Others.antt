@@ -29,7 +29,8 @@ use Rattle.chunks.proofs.Within.{Within, within-calm}
 use Rattle.emits.specs.BlockOf.{blockOf, BlockFits, emitOf, EmitFits}
 use Rattle.emits.specs.declared.BlockAt.{BlockAt}
 use Rattle.emits.specs.declared.EmitAt.{EmitAt}
-use Rattle.emits.specs.Target.{fieldsOf, settingAt, restAt, fieldIn, annotatedAt, Fine}
+use Rattle.tables.specs.Tables.{Tables, tablesOf, fieldsOf}
+use Rattle.emits.specs.Target.{settingAt, restAt, fieldIn, annotatedAt, Fine}
 use Rattle.emits.proofs.Rests.{rest-step}
 use Rattle.fields.specs.Parsed.{parsedAt}
 use Rattle.fields.proofs.Answers.{answer-agrees, answer-fits}
@@ -55,34 +56,37 @@ verdict-of true [] (Verdict.Refuse why) e = absurd (let z : _≡_ {A = ℕ} 0 1 
 verdict-of true (b ∷ bs) Verdict.Pass e = absurd (let z : _≡_ {A = ℕ} 0 1 = cc in omega arith)
 verdict-of true (b ∷ bs) (Verdict.Refuse why) e = ap (λ (x : Refusal). Verdict.Refuse x) (let z : Refusal.OpenChunk ≡ why = cc in z)
 
-module _ (s places own parents payloads fields : List ℕ) (i n : ℕ) where
+module _ (s rows values fields : List ℕ) (i n : ℕ) where
+  abbrev tables : Tables
+  tables = tablesOf s rows values fields
+
   abbrev rest : ℕ → List Annotated
-  rest = restAt s places own parents payloads fields i n
+  rest = restAt tables i n
 
   abbrev here : ℕ → Annotated
-  here = annotatedAt s places own parents payloads fields i n
+  here = annotatedAt tables i n
 
   module _ (order : EndiannessValue) (m : Arrays) (k : ℕ) where
     abbrev c : Setting
-    c = settingAt s places own parents payloads fields i n order m
+    c = settingAt tables i n order m
 
     -- ---- what the field emits
 
-    module _ (shift : ℕ) {e : EmitAt} (u : e ≡ parsedAt s places own parents payloads fields i n k shift order) where
+    module _ (shift : ℕ) {e : EmitAt} (u : e ≡ parsedAt tables i n k shift order) where
       abbrev backing : Part → ℕ
-      backing id = sizeBacking s id (fieldsOf s places own parents payloads fields i n)
+      backing id = sizeBacking s id (fieldsOf tables i n)
 
-      emits-as : {x : EmitAt} → e ≡ x → emits s places own parents payloads fields i n order m k shift ≡ emitOf s (text "payload") order m backing x
+      emits-as : {x : EmitAt} → e ≡ x → emits tables i n order m k shift ≡ emitOf s (text "payload") order m backing x
       emits-as h =
-          sym (answer-agrees s places own parents payloads fields i n k shift order m)
+          sym (answer-agrees s rows values fields i n k shift order m)
           ∙ ap (emitOf s (text "payload") order m backing) (sym u ∙ h)
 
-      pub block-fits : (k < n) × Fine s places own parents payloads fields i n → {b : BlockAt} → e ≡ EmitAt.Appends b → BlockFits b
-      block-fits z h = subst EmitFits (sym u ∙ h) (answer-fits s places own parents payloads fields i n k shift order (z .1) (z .0))
+      pub block-fits : (k < n) × Fine tables i n → {b : BlockAt} → e ≡ EmitAt.Appends b → BlockFits b
+      block-fits z h = subst EmitFits (sym u ∙ h) (answer-fits s rows values fields i n k shift order (z .1) (z .0))
 
       pub emits-block : {b : BlockAt} → e ≡ EmitAt.Appends b → {out left : Text} {at p : ℕ}
           → ((bits : Part → ℕ) → Put out at (blockText (blockOf s (text "payload") order m bits b)) p left)
-          → Emitted s places own parents payloads fields i n order m k shift out at (record { verdict = Verdict.Pass; at = p }) left
+          → Emitted tables i n order m k shift out at (record { verdict = Verdict.Pass; at = p }) left
       emits-block {b} h put = record {
         lines = blockText (blockOf s (text "payload") order m backing b);
         wrote = put backing;
@@ -93,7 +97,7 @@ module _ (s places own parents payloads fields : List ℕ) (i n : ℕ) where
       }
 
       pub emits-none : e ≡ EmitAt.Silent → (out : Text) (at : ℕ) → length out < 2 ^ 63
-          → Emitted s places own parents payloads fields i n order m k shift out at (record { verdict = Verdict.Pass; at = at }) out
+          → Emitted tables i n order m k shift out at (record { verdict = Verdict.Pass; at = at }) out
       emits-none h out at room = record {
         lines = [];
         wrote = still out at room;
@@ -104,7 +108,7 @@ module _ (s places own parents payloads fields : List ℕ) (i n : ℕ) where
       }
 
       pub emits-refusal : {why : Refusal} → e ≡ EmitAt.Refuses why → (out : Text) (at : ℕ) → length out < 2 ^ 63
-          → Emitted s places own parents payloads fields i n order m k shift out at (record { verdict = Verdict.Refuse why; at = at }) out
+          → Emitted tables i n order m k shift out at (record { verdict = Verdict.Refuse why; at = at }) out
       emits-refusal {why} h out at room = record {
         lines = [];
         wrote = still out at room;
@@ -117,29 +121,29 @@ module _ (s places own parents payloads fields : List ℕ) (i n : ℕ) where
     -- ---- behind `check_code`
 
     module _ {t : State}
-        (eb : isBit c (fieldIn s places own parents payloads fields i n k) ≡ false) {q : Checked} (ec : q ≡ codeChecked t) (kinds : List Held)
-        (turn : Turn s places own parents payloads fields i n m k t kinds) where
+        (eb : isBit c (fieldIn tables i n k) ≡ false) {q : Checked} (ec : q ≡ codeChecked t) (kinds : List Held)
+        (turn : Turn tables i n m k t kinds) where
       abbrev next : Result
       next = stream c (calm (seen m s t kinds)) (rest (k + 1))
 
-      streams : {v : Verdict} → q .verdict ≡ v → from s places own parents payloads fields i n order m k k t kinds
-          ≡ onVerdict v (emitting (emits s places own parents payloads fields i n order m k (t .shift)) next)
+      streams : {v : Verdict} → q .verdict ≡ v → from tables i n order m k k t kinds
+          ≡ onVerdict v (emitting (emits tables i n order m k (t .shift)) next)
       streams e =
-          ap (stream c (seen m s t kinds)) (rest-step s places own parents payloads fields i n k (turn .inside))
+          ap (stream c (seen m s t kinds)) (rest-step s rows values fields i n k (turn .inside))
           ∙ stream-no c (here k) (rest (k + 1)) (seen m s t kinds) eb
-          ∙ code-flushes m s (text "payload") t kinds (emitting (emits s places own parents payloads fields i n order m k (t .shift)) next)
-          ∙ ap (λ (x : Verdict). onVerdict x (emitting (emits s places own parents payloads fields i n order m k (t .shift)) next))
+          ∙ code-flushes m s (text "payload") t kinds (emitting (emits tables i n order m k (t .shift)) next)
+          ∙ ap (λ (x : Verdict). onVerdict x (emitting (emits tables i n order m k (t .shift)) next))
           (ap (λ (x : Checked). x .verdict) (sym ec) ∙ e)
 
       abbrev text-behind : Text
       text-behind = spelt c (calm (seen m s t kinds)) (rest (k + 1))
 
-      texts : {v : Verdict} → q .verdict ≡ v → speltFrom s places own parents payloads fields i n order m k k t kinds
-          ≡ ifPasses v (emitText (emits s places own parents payloads fields i n order m k (t .shift)) text-behind)
+      texts : {v : Verdict} → q .verdict ≡ v → speltFrom tables i n order m k k t kinds
+          ≡ ifPasses v (emitText (emits tables i n order m k (t .shift)) text-behind)
       texts e =
-          ap (spelt c (seen m s t kinds)) (rest-step s places own parents payloads fields i n k (turn .inside))
+          ap (spelt c (seen m s t kinds)) (rest-step s rows values fields i n k (turn .inside))
           ∙ spelt-no c (here k) (rest (k + 1)) (seen m s t kinds) eb
-          ∙ ap (λ (x : Verdict). ifPasses x (emitText (emits s places own parents payloads fields i n order m k (t .shift)) text-behind))
+          ∙ ap (λ (x : Verdict). ifPasses x (emitText (emits tables i n order m k (t .shift)) text-behind))
           (verdict-of (t .pending) (seen m s t kinds .chunk) (codeChecked t .verdict) (code-flushes m s (text "payload") t kinds (writes []))
           ∙ ap (λ (x : Checked). x .verdict) (sym ec) ∙ e)
 
@@ -148,7 +152,7 @@ module _ (s places own parents payloads fields : List ℕ) (i n : ℕ) where
 
       -- 10
       pub other-open : {why : Refusal} → q .verdict ≡ Verdict.Refuse why → (out : Text) (at : ℕ) → length out < 2 ^ 63
-          → Parsed s places own parents payloads fields i n order m k t kinds out at (record { verdict = Verdict.Refuse why; at = at; state = q .state }) kinds out
+          → Parsed tables i n order m k t kinds out at (record { verdict = Verdict.Refuse why; at = at; state = q .state }) kinds out
       other-open {why} e out at room = record {
         lines = [];
         wrote = still out at room;
@@ -160,8 +164,8 @@ module _ (s places own parents payloads fields : List ℕ) (i n : ℕ) where
       }
 
       pub other-goes : q .verdict ≡ Verdict.Pass → {out left : Text} {at : ℕ} {r : Lowered}
-          → Emitted s places own parents payloads fields i n order m k (t .shift) out at r left
-          → Parsed s places own parents payloads fields i n order m k t kinds out at (record { verdict = r .verdict; at = r .at; state = q .state }) kinds left
+          → Emitted tables i n order m k (t .shift) out at r left
+          → Parsed tables i n order m k t kinds out at (record { verdict = r .verdict; at = r .at; state = q .state }) kinds left
       other-goes e {r = r} d = record {
         lines = d .lines;
         wrote = d .wrote;
@@ -174,9 +178,9 @@ module _ (s places own parents payloads fields : List ℕ) (i n : ℕ) where
             ∙ ap (λ (x : flow.State). d .lines ++ spelt c x (rest (k + 1))) (sym (calmed e));
         spelt-all = λ why p. texts e ∙ d .spelt-all why p text-behind;
         going =
-            λ p. going-by s places own parents payloads fields i n order m k (q .state) kinds
+            λ p. going-by s rows values fields i n order m k (q .state) kinds
             (subst (λ (x : flow.State). Within x (k + 1) (t .shift)) (sym (calmed e))
-            (within-calm (seen m s t kinds) k (t .shift) (within s places own parents payloads fields i n order m k t kinds (turn .going))))
-            (omega (arith, sums s places own parents payloads fields i n order m k (turn .inside), turn .going .fits))
+            (within-calm (seen m s t kinds) k (t .shift) (within s rows values fields i n order m k t kinds (turn .going))))
+            (omega (arith, sums s rows values fields i n order m k (turn .inside), turn .going .fits))
             (subst (λ (x : Checked). Long (x .state) kinds) (sym ec) (code-long t kinds (turn .going .long)));
       }

@@ -11,7 +11,6 @@ use Rattle.definitions.specs.Refusals.{staticSum}
 use Rattle.definitions.specs.Blocks.{Bit, widths}
 use Rattle.definitions.specs.FieldParser.{Setting, Emit, appends, silent, kindOf, isBit, parseUnchecked, lowerFields}
 use Rattle.definitions.specs.FieldParser as parser
-use Rattle.definitions.specs.Tables.{fieldsFrom}
 use Rattle.definitions.specs.declared.Arrays.{Arrays}
 use Rattle.definitions.specs.declared.EndiannessValue.{EndiannessValue}
 use Rattle.definitions.specs.declared.Refusal.{Refusal}
@@ -24,6 +23,7 @@ use Rattle.chunks.specs.Steps.{view, Long, Advance, bitAdvance}
 use Rattle.chunks.specs.declared.State.{State}
 use Rattle.chunks.specs.declared.Step.{Step}
 use Rattle.conditions.specs.IfNames.{condNames, namesFrom}
+use Rattle.tables.specs.Tables.{fieldsFrom, Tables}
 use Rattle.emits.specs.Target.{settingAt, restAt, annotatedAt, Fine}
 use Rattle.runs.specs.Counted.{laterBits}
 use Rattle.parser.specs.declared.Lowered.{Lowered}
@@ -33,8 +33,8 @@ abbrev pub seen : Arrays → Text → State → List Held → flow.State
 seen m s t kinds = view m s (text "payload") t kinds
 
 -- the tables have the `if` names of the target's fields
-abbrev pub Named : Text → List ℕ → ℕ → ℕ → List ℕ → List ℕ → ℕ → Type 0
-Named s fields i n starts ends conds = namesFrom starts ends 0 conds ≡ condNames (fieldsFrom s fields (i * 64) n)
+abbrev pub Named : List ℕ → List ℕ → ℕ → ℕ → List ℕ → List ℕ → ℕ → Type 0
+Named values fields i n starts ends conds = namesFrom starts ends 0 conds ≡ condNames (fieldsFrom values fields (i * 64) n)
 
 -- ---- the lines of the fields before one that is refused
 
@@ -65,28 +65,27 @@ spelt c s (a ∷ later) = elim (isBit c (a .field)) [
   | false ↦ ifPasses (flushVerdict (s .pending) (s .chunk)) (emitText (parseUnchecked c (s .shift) a later) (spelt c (calm s) later))
 ]
 
-module _ (s places own parents payloads fields : List ℕ) (i n : ℕ) where
+module _ (tables : Tables) (i n : ℕ) where
   -- before field k: the chunk has at most as many fields as were met, its bits and those to come fit, and its shift is the sum of its widths
   pub record Going (m : Arrays) (k : ℕ) (t : State) (kinds : List Held) : Type 0 where
     pub few : t .chunk .len ≤ k
     pub numbers : t .nr ≤ k
-    pub sum : t .shift ≡ widths (seen m s t kinds .chunk)
-    pub fits : t .shift + staticSum (restAt s places own parents payloads fields i n k) < 2 ^ 31
+    pub sum : t .shift ≡ widths (seen m (tables .source) t kinds .chunk)
+    pub fits : t .shift + staticSum (restAt tables i n k) < 2 ^ 31
     pub long : Long t kinds
 
   -- field k comes next
   pub record Turn (m : Arrays) (k : ℕ) (t : State) (kinds : List Held) : Type 0 where
     pub inside : k < n
     pub bounded : n ≤ 64
-    pub fine : Fine s places own parents payloads fields i n
+    pub fine : Fine tables i n
     pub going : Going m k t kinds
 
   module _ (order : EndiannessValue) (m : Arrays) (k : ℕ) where
     -- what field k emits, where it is no bit field
     abbrev pub emits : ℕ → Emit
     emits shift =
-        parseUnchecked (settingAt s places own parents payloads fields i n order m) shift (annotatedAt s places own parents payloads fields i n k)
-        (restAt s places own parents payloads fields i n (k + 1))
+        parseUnchecked (settingAt tables i n order m) shift (annotatedAt tables i n k) (restAt tables i n (k + 1))
 
     pub record Emitted (shift : ℕ) (out : Text) (at : ℕ) (r : Lowered) (left : Text) : Type 0 where
       pub lines : Text
@@ -98,18 +97,14 @@ module _ (s places own parents payloads fields : List ℕ) (i n : ℕ) where
 
     -- the bits behind field k that count where its chunk closes
     abbrev pub laterAt : State → ℕ
-    laterAt t =
-        laterBits (t .pending) (t .shift)
-        (runBits (settingAt s places own parents payloads fields i n order m) (restAt s places own parents payloads fields i n (k + 1)))
+    laterAt t = laterBits (t .pending) (t .shift) (runBits (settingAt tables i n order m) (restAt tables i n (k + 1)))
 
     -- what the stream comes to from a state on, at field k and behind it
     abbrev pub from : ℕ → State → List Held → Result
-    from j t kinds =
-        stream (settingAt s places own parents payloads fields i n order m) (seen m s t kinds) (restAt s places own parents payloads fields i n j)
+    from j t kinds = stream (settingAt tables i n order m) (seen m (tables .source) t kinds) (restAt tables i n j)
 
     abbrev pub speltFrom : ℕ → State → List Held → Text
-    speltFrom j t kinds =
-        spelt (settingAt s places own parents payloads fields i n order m) (seen m s t kinds) (restAt s places own parents payloads fields i n j)
+    speltFrom j t kinds = spelt (settingAt tables i n order m) (seen m (tables .source) t kinds) (restAt tables i n j)
 
     -- what field k comes to, with the kinds that are held then
     pub record Parsed (t : State) (kinds : List Held) (out : Text) (at : ℕ) (r : Step) (held : List Held) (left : Text) : Type 0 where

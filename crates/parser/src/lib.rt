@@ -1,6 +1,6 @@
 // The driver of `FieldParser` (cxx.rs): `new`, `parse` for each field of the target in order, and `done`. A run's check is written before its first
 // chunk, with the total found by looking ahead over the widths (crate runs); that the lines are those of cxx.rs is the law of crate stream.
-// The target has the index i: its fields are the n that the table has from 64 i on, types are looked up in the i rows before. The `if` names of its
+// The target has the index i: its fields are the n whose places the table has from 64 i on, types are looked up in the i rows before. The `if` names of its
 // fields are gathered once (crate conditions). The kinds of the open chunk's fields are the loop's own: a chunk takes them where it closes.
 use bit_fields::KindAt;
 use chunk_lines::Held;
@@ -18,6 +18,7 @@ ghost use Rattle.definitions.specs.Bytes.{text};
 ghost use Rattle.definitions.specs.FieldParser.{isBit};
 ghost use Rattle.stream.specs.Stream.{widthOf};
 ghost use Rattle.chunks.specs.Steps.{grownState, codeChecked, Closing, ChunkClosed};
+ghost use Rattle.tables.specs.Tables.{Tables, tablesOf};
 ghost use Rattle.emits.specs.Target.{settingAt, restAt, fieldIn, annotatedAt, Fine};
 ghost use Rattle.parser.specs.Driver.{Named, laterAt, Emitted, OtherParsed, doneBy, Lowers};
 
@@ -32,10 +33,8 @@ pub struct Lowered {
 // The state with field k in its chunk.
 fn grow(
     rec: &[u8],
-    places: &[usize],
-    own: &[u64],
-    parents: &[u64],
-    payloads: &[u64],
+    rows: &[u64],
+    values: &[u64],
     fields: &[usize],
     i: usize,
     n: usize,
@@ -43,12 +42,14 @@ fn grow(
     t: State,
     f: Field,
 ) -> State
-    requires { ⌜ (k < n) × Fine (now rec) (now places) (now own) (now parents) (now payloads) (now fields) i n ⌝ }
-    requires { ⌜ f ≡ fieldIn (now rec) (now places) (now own) (now parents) (now payloads) (now fields) i n k ⌝ }
-    requires { ⌜ (t .chunk .len < 64) × (t .shift + widthOf (annotatedAt (now rec) (now places) (now own) (now parents) (now payloads) (now fields) i n k) < 2 ^ 64) ⌝ }
-    ensures { λ r. ⌜ r ≡ grownState t (widthOf (annotatedAt (now (rec .entry)) (now (places .entry)) (now (own .entry)) (now (parents .entry)) (now (payloads .entry)) (now (fields .entry)) i n k)) ⌝ }
+    requires { let tables : Tables = tablesOf (now rec) (now rows) (now values) (now fields) in ⌜ (k < n) × Fine tables i n ⌝ }
+    requires { let tables : Tables = tablesOf (now rec) (now rows) (now values) (now fields) in ⌜ f ≡ fieldIn tables i n k ⌝ }
+    requires { let tables : Tables = tablesOf (now rec) (now rows) (now values) (now fields) in
+        ⌜ (t .chunk .len < 64) × (t .shift + widthOf (annotatedAt tables i n k) < 2 ^ 64) ⌝ }
+    ensures { λ r. let tables : Tables = tablesOf (now (rec .entry)) (now (rows .entry)) (now (values .entry)) (now (fields .entry)) in
+        ⌜ r ≡ grownState t (widthOf (annotatedAt tables i n k)) ⌝ }
 {
-    let size = annotate::field_size(rec, places, own, parents, payloads, fields, i, n, f);
+    let size = annotate::field_size(rec, rows, values, fields, i, n, f);
     let width = runs::static_width(size);
     chunks::grow(t, width)
 }
@@ -60,10 +61,8 @@ fn parse_bit_field<'a>(
     at: usize,
     order: EndiannessValue,
     m: Arrays,
-    places: &[usize],
-    own: &[u64],
-    parents: &[u64],
-    payloads: &[u64],
+    rows: &[u64],
+    values: &[u64],
     fields: &[usize],
     i: usize,
     n: usize,
@@ -71,23 +70,13 @@ fn parse_bit_field<'a>(
     t: State,
     kinds: [Held; 64],
 ) -> Step
-    requires { ⌜ (k < n) × Fine (now rec) (now places) (now own) (now parents) (now payloads) (now fields) i n ⌝ }
-    requires { ⌜ Closing m (now rec) (text "payload") t kinds (laterAt (now rec) (now places) (now own) (now parents) (now payloads) (now fields) i n order m k t) ⌝ }
-    ensures { λ r. ⌜ ChunkClosed m (now (rec .entry)) (text "payload") order t kinds (laterAt (now (rec .entry)) (now (places .entry)) (now (own .entry)) (now (parents .entry)) (now (payloads .entry)) (now (fields .entry)) i n order m k t) (now (out .entry)) at r (now (out .exit)) ⌝ }
+    requires { let tables : Tables = tablesOf (now rec) (now rows) (now values) (now fields) in ⌜ (k < n) × Fine tables i n ⌝ }
+    requires { let tables : Tables = tablesOf (now rec) (now rows) (now values) (now fields) in
+        ⌜ Closing m (now rec) (text "payload") t kinds (laterAt tables i n order m k t) ⌝ }
+    ensures { λ r. let tables : Tables = tablesOf (now (rec .entry)) (now (rows .entry)) (now (values .entry)) (now (fields .entry)) in
+        ⌜ ChunkClosed m (tables .source) (text "payload") order t kinds (laterAt tables i n order m k t) (now (out .entry)) at r (now (out .exit)) ⌝ }
 {
-    let later = runs::later_bits(
-        rec,
-        places,
-        own,
-        parents,
-        payloads,
-        fields,
-        i,
-        n,
-        k,
-        t.pending,
-        t.shift,
-    );
+    let later = runs::later_bits(rec, rows, values, fields, i, n, k, t.pending, t.shift);
     chunks::close(rec, b"payload", out, at, m, order, t, kinds, later)
 }
 
@@ -100,32 +89,19 @@ fn emit<'a>(
     at: usize,
     order: EndiannessValue,
     m: Arrays,
-    places: &[usize],
-    own: &[u64],
-    parents: &[u64],
-    payloads: &[u64],
+    rows: &[u64],
+    values: &[u64],
     fields: &[usize],
     i: usize,
     n: usize,
     k: usize,
     shift: u64,
 ) -> Lowered
-    requires { ⌜ (k < n) × Fine (now rec) (now places) (now own) (now parents) (now payloads) (now fields) i n ⌝ }
-    ensures { λ r. ⌜ Emitted (now (rec .entry)) (now (places .entry)) (now (own .entry)) (now (parents .entry)) (now (payloads .entry)) (now (fields .entry)) i n order m k shift (now (out .entry)) at r (now (out .exit)) ⌝ }
+    requires { let tables : Tables = tablesOf (now rec) (now rows) (now values) (now fields) in ⌜ (k < n) × Fine tables i n ⌝ }
+    ensures { λ r. let tables : Tables = tablesOf (now (rec .entry)) (now (rows .entry)) (now (values .entry)) (now (fields .entry)) in
+        ⌜ Emitted tables i n order m k shift (now (out .entry)) at r (now (out .exit)) ⌝ }
 {
-    match fields::parse_unchecked(
-        rec,
-        places,
-        own,
-        parents,
-        payloads,
-        fields,
-        i,
-        n,
-        k,
-        shift,
-        order,
-    ) {
+    match fields::parse_unchecked(rec, rows, values, fields, i, n, k, shift, order) {
         EmitAt::Appends(block) => Lowered {
             verdict: Verdict::Pass,
             at: field_lines::put_block(rec, b"payload", out, at, order, m, block),
@@ -148,19 +124,19 @@ fn parse_other_field<'a>(
     at: usize,
     order: EndiannessValue,
     m: Arrays,
-    places: &[usize],
-    own: &[u64],
-    parents: &[u64],
-    payloads: &[u64],
+    rows: &[u64],
+    values: &[u64],
     fields: &[usize],
     i: usize,
     n: usize,
     k: usize,
     t: State,
 ) -> Step
-    requires { ⌜ (k < n) × Fine (now rec) (now places) (now own) (now parents) (now payloads) (now fields) i n ⌝ }
-    requires { ⌜ isBit (settingAt (now rec) (now places) (now own) (now parents) (now payloads) (now fields) i n order m) (fieldIn (now rec) (now places) (now own) (now parents) (now payloads) (now fields) i n k) ≡ false ⌝ }
-    ensures { λ r. ⌜ OtherParsed (now (rec .entry)) (now (places .entry)) (now (own .entry)) (now (parents .entry)) (now (payloads .entry)) (now (fields .entry)) i n order m k t (now (out .entry)) at r (now (out .exit)) ⌝ }
+    requires { let tables : Tables = tablesOf (now rec) (now rows) (now values) (now fields) in ⌜ (k < n) × Fine tables i n ⌝ }
+    requires { let tables : Tables = tablesOf (now rec) (now rows) (now values) (now fields) in
+        ⌜ isBit (settingAt tables i n order m) (fieldIn tables i n k) ≡ false ⌝ }
+    ensures { λ r. let tables : Tables = tablesOf (now (rec .entry)) (now (rows .entry)) (now (values .entry)) (now (fields .entry)) in
+        ⌜ OtherParsed tables i n order m k t (now (out .entry)) at r (now (out .exit)) ⌝ }
 {
     let checked = chunks::check_code(t);
     let verdict = checked.verdict;
@@ -178,10 +154,8 @@ fn parse_other_field<'a>(
                 at,
                 order,
                 m,
-                places,
-                own,
-                parents,
-                payloads,
+                rows,
+                values,
                 fields,
                 i,
                 n,
@@ -225,10 +199,8 @@ fn parse<'a>(
     at: usize,
     order: EndiannessValue,
     m: Arrays,
-    places: &[usize],
-    own: &[u64],
-    parents: &[u64],
-    payloads: &[u64],
+    rows: &[u64],
+    values: &[u64],
     fields: &[usize],
     i: usize,
     n: usize,
@@ -236,9 +208,10 @@ fn parse<'a>(
     ends: &[usize],
     conds: usize,
 ) -> Lowered
-    requires { ⌜ (n ≤ 64) × Fine (now rec) (now places) (now own) (now parents) (now payloads) (now fields) i n ⌝ }
-    requires { ⌜ Named (now rec) (now fields) i n (now starts) (now ends) conds ⌝ }
-    ensures { λ r. ⌜ Lowers (settingAt (now (rec .entry)) (now (places .entry)) (now (own .entry)) (now (parents .entry)) (now (payloads .entry)) (now (fields .entry)) i n order m) (restAt (now (rec .entry)) (now (places .entry)) (now (own .entry)) (now (parents .entry)) (now (payloads .entry)) (now (fields .entry)) i n 0) (now (out .entry)) at r (now (out .exit)) ⌝ }
+    requires { let tables : Tables = tablesOf (now rec) (now rows) (now values) (now fields) in ⌜ (n ≤ 64) × Fine tables i n ⌝ }
+    requires { ⌜ Named (now values) (now fields) i n (now starts) (now ends) conds ⌝ }
+    ensures { λ r. let tables : Tables = tablesOf (now (rec .entry)) (now (rows .entry)) (now (values .entry)) (now (fields .entry)) in
+        ⌜ Lowers (settingAt tables i n order m) (restAt tables i n 0) (now (out .entry)) at r (now (out .exit)) ⌝ }
 {
     let none = KindAt::Reserved;
     let mut kinds = [Held { kind: none }; 64];
@@ -246,15 +219,15 @@ fn parse<'a>(
     let mut p = at;
     let mut k = 0;
     while k < n {
-        let f = references::field_in(rec, fields, i, k);
-        if runs::is_bit(rec, places, i, f) {
+        let f = references::field_in(values, fields, i, k);
+        if runs::is_bit(rec, rows, i, f) {
             let desc = f.desc;
-            let kind = field_kinds::kind_of(rec, places, starts, ends, conds, i, desc);
+            let kind = field_kinds::kind_of(rec, rows, starts, ends, conds, i, desc);
             let c = t.chunk;
             let len = c.len;
             let h = Held { kind };
             kinds[len] = h;
-            let u = grow(rec, places, own, parents, payloads, fields, i, n, k, t, f);
+            let u = grow(rec, rows, values, fields, i, n, k, t, f);
             if u.shift % 8 != 0 {
                 t = u;
                 k += 1;
@@ -265,10 +238,8 @@ fn parse<'a>(
                     p,
                     order,
                     m,
-                    places,
-                    own,
-                    parents,
-                    payloads,
+                    rows,
+                    values,
                     fields,
                     i,
                     n,
@@ -293,22 +264,7 @@ fn parse<'a>(
                 }
             }
         } else {
-            let step = parse_other_field(
-                rec,
-                out,
-                p,
-                order,
-                m,
-                places,
-                own,
-                parents,
-                payloads,
-                fields,
-                i,
-                n,
-                k,
-                t,
-            );
+            let step = parse_other_field(rec, out, p, order, m, rows, values, fields, i, n, k, t);
             let verdict = step.verdict;
             match verdict {
                 Verdict::Refuse(why) => {
@@ -336,30 +292,27 @@ pub fn lower_target(
     at: usize,
     order: EndiannessValue,
     m: Arrays,
-    places: &[usize],
-    own: &[u64],
-    parents: &[u64],
-    payloads: &[u64],
+    rows: &[u64],
+    values: &[u64],
     fields: &[usize],
     i: usize,
     n: usize,
 ) -> Lowered
-    requires { ⌜ (n ≤ 64) × Fine (now rec) (now places) (now own) (now parents) (now payloads) (now fields) i n ⌝ }
-    ensures { λ r. ⌜ Lowers (settingAt (now (rec .entry)) (now (places .entry)) (now (own .entry)) (now (parents .entry)) (now (payloads .entry)) (now (fields .entry)) i n order m) (restAt (now (rec .entry)) (now (places .entry)) (now (own .entry)) (now (parents .entry)) (now (payloads .entry)) (now (fields .entry)) i n 0) (now (out .entry)) at r (now (out .exit)) ⌝ }
+    requires { let tables : Tables = tablesOf (now rec) (now rows) (now values) (now fields) in ⌜ (n ≤ 64) × Fine tables i n ⌝ }
+    ensures { λ r. let tables : Tables = tablesOf (now (rec .entry)) (now (rows .entry)) (now (values .entry)) (now (fields .entry)) in
+        ⌜ Lowers (settingAt tables i n order m) (restAt tables i n 0) (now (out .entry)) at r (now (out .exit)) ⌝ }
 {
     let mut starts = [0usize; 64];
     let mut ends = [0usize; 64];
-    let conds = conditions::conditions(rec, fields, i, n, &mut starts, &mut ends);
+    let conds = conditions::conditions(values, fields, i, n, &mut starts, &mut ends);
     parse(
         rec,
         out,
         at,
         order,
         m,
-        places,
-        own,
-        parents,
-        payloads,
+        rows,
+        values,
         fields,
         i,
         n,

@@ -1,162 +1,130 @@
 -- The tables that the reader left give the declarations of the record back (`declarationsFrom` of `tablesFrom`).
 -- Assumes nothing.
-use Prim.Native.Nat.{ℕ, zero, suc, _+_, _*_, _-_, _≤_, _<_}
+use Prim.Native.Nat.{ℕ, zero, suc, _+_, _*_, _-_, _/_, _≤_, _<_}
 use mathlib.Core.Bool.{Bool, true, false}
 use mathlib.Core.List.{List, [], _∷_, _++_, append-assoc}
 use mathlib.Core.Path.{_≡_, refl, sym, ap, _∙_, subst}
 use native.Mathlib.Numerals.{add-one}
 use native.Mathlib.Omega.{arith}
 use lib.Dec.{ltb}
-use lib.ListN.{length, getD, take, drop, set, length-set}
-use lib.Seq.{sets, sets-eq, length-sets, getD-set-same, getD-set-other, take-set-le, take-add, drop-cons, drop-at, take-at, length-take-le}
+use lib.ListN.{length, getD, take, drop, set}
+use lib.Seq.{sets, sets-eq, length-sets, take-set-le, take-add, drop-cons, drop-at, take-at, length-take-le}
 use Rattle.definitions.specs.Bytes.{Text}
 use Rattle.definitions.specs.Record.{declAt, fieldsBehind, declarationsAt, onDecl, onFields, Fields, fieldsAre, noFields, Declaration, Declarations, declarationsAre, noDeclarations, withDeclaration}
-use Rattle.definitions.specs.Tables.{declHere, fieldHere, fieldsFrom, declarationIn, declarationsFrom}
 use Rattle.definitions.specs.declared.Field.{Field}
 use Rattle.definitions.specs.declared.Decl.{Decl}
-use Rattle.definitions.specs.declared.DeclDesc.{DeclDesc}
 use Rattle.definitions.specs.declared.DeclRead.{DeclRead}
-use Rattle.places.specs.Places.{Tables, given, withPlace, withFields, tablesFrom, placesBehind}
-use Rattle.places.proofs.Again.{fieldKeys, fieldsHere, decl-key, decl-again, behind-again}
+use Rattle.tables.specs.Words.{fieldWords, declWords}
+use Rattle.tables.specs.Tables.{Tables, declHere, countHere, fieldHere, fieldsFrom, declarationIn, declarationsFrom}
+use Rattle.tables.proofs.Entries.{field-same, decl-same}
+use Rattle.tables.proofs.Again.{getD-before, here-again, decl-again, count-again}
+use Rattle.places.specs.Places.{fieldKeys, withValues, withRow, given, withDecl, withFields, tablesFrom, upToBehind}
+use Rattle.places.proofs.Ends.{Ends, decl-ends}
+use Rattle.places.proofs.Keys.{Apart, apart-from, Follow, behind-follow}
 
 -- ---- what the tables hold
 
-abbrev declKeys : List Declaration → List ℕ
-declKeys [] = []
-declKeys (d ∷ ds) = d .decl .key ∷ declKeys ds
+abbrev withRows : List ℕ → ℕ → List Declaration → List ℕ
+withRows t i [] = t
+withRows t i (d ∷ ds) = withRows (withRow t i (d .decl) (length (d .fields))) (i + 1) ds
 
-abbrev fieldCounts : List Declaration → List ℕ
-fieldCounts [] = []
-fieldCounts (d ∷ ds) = length (d .fields) ∷ fieldCounts ds
+abbrev withAll : List ℕ → List Declaration → List ℕ
+withAll t [] = t
+withAll t (d ∷ ds) = withAll (withValues t (d .fields)) ds
 
 -- the places of the fields of each declaration from the i-th on: 64 entries for each
-abbrev fieldRows : List ℕ → ℕ → List Declaration → List ℕ
-fieldRows t i [] = t
-fieldRows t i (d ∷ ds) = fieldRows (sets t (i * 64) (fieldKeys (d .fields))) (i + 1) ds
+abbrev withPlaces : List ℕ → ℕ → List Declaration → List ℕ
+withPlaces t i [] = t
+withPlaces t i (d ∷ ds) = withPlaces (sets t (i * 64) (fieldKeys (d .fields))) (i + 1) ds
 
--- three tables, with the declarations `ds` written from the i-th row on
-record Hold (places fields counts : List ℕ) (i : ℕ) (ds : List Declaration) (x y z : List ℕ) : Type 0 where
-  places-are : x ≡ sets places i (declKeys ds)
-  fields-are : y ≡ fieldRows fields i ds
-  counts-are : z ≡ sets counts i (fieldCounts ds)
+-- the fields of declarations, those of each from the end of the one before it on
+data Spaced : ℕ → List Declaration → ℕ → Type 0 where
+  done : {low end : ℕ} → low ≤ end → Spaced low [] end
+  more : {low end : ℕ} {d : Declaration} {ds : List Declaration} (mid : ℕ) → Apart low (d .fields) mid → Spaced mid ds end → Spaced low (d ∷ ds) end
 
-abbrev HoldIn : Tables → ℕ → List Declaration → Tables → Type 0
-HoldIn t i ds u = Hold (t .places) (t .fields) (t .counts) i ds (u .places) (u .fields) (u .counts)
+-- the declarations `ds`, that stand from `at` on, written from the i-th row on
+record Hold (s : Text) (t : Tables) (i at : ℕ) (ds : List Declaration) (u : Tables) : Type 0 where
+  rows-are : u .rows ≡ withRows (t .rows) i ds
+  values-are : u .values ≡ withAll (t .values) ds
+  fields-are : u .fields ≡ withPlaces (t .fields) i ds
+  spaced : Spaced at ds (length s)
 
-hold-none : (t : Tables) (i : ℕ) → HoldIn t i [] t
-hold-none t i = record { places-are = refl; fields-are = refl; counts-are = refl }
+hold-none : (s : Text) (t : Tables) (i at : ℕ) → at ≤ length s → Hold s t i at [] t
+hold-none s t i at h = record { rows-are = refl; values-are = refl; fields-are = refl; spaced = Spaced.done h }
 
-hold-more : (t : Tables) (i at : ℕ) (d : Decl) (xs : List Field) (ps : List ℕ) (ds : List Declaration) (u : Tables) → d .key ≡ at → ps ≡ fieldKeys xs
-    → HoldIn (withPlace (withFields t i ps) i at (length xs)) (i + 1) ds u → HoldIn t i (record { decl = d; fields = xs } ∷ ds) u
-hold-more t i at d xs ps ds u ek ep h = record {
-  places-are = h .places-are ∙ rw (add-one i, ek);
-  fields-are = h .fields-are ∙ ap (λ (l : List ℕ). fieldRows (sets (t .fields) (i * 64) l) (i + 1) ds) ep;
-  counts-are = h .counts-are ∙ rw (add-one i);
+hold-more : (s : Text) (t : Tables) (i at : ℕ) (d : Decl) (xs ys : List Field) (q : ℕ) (ds : List Declaration) (u : Tables) → ys ≡ xs → Apart at xs q
+    → Hold s (withDecl (withFields t i ys) i d (length xs)) (i + 1) q ds u → Hold s t i at (record { decl = d; fields = xs } ∷ ds) u
+hold-more s t i at d xs ys q ds u e a h = record {
+  rows-are = h .rows-are;
+  values-are = h .values-are ∙ ap (λ (l : List Field). withAll (withValues (t .values) l) ds) e;
+  fields-are = h .fields-are ∙ ap (λ (l : List Field). withPlaces (sets (t .fields) (i * 64) (fieldKeys l)) (i + 1) ds) e;
+  spaced = Spaced.more q a (h .spaced);
 }
 
 tables-hold : (s : Text) (fuel i at : ℕ) (t : Tables) (ds : List Declaration) → declarationsAt s fuel at ≡ declarationsAre ds
-    → HoldIn t i ds (tablesFrom s fuel i at t)
+    → Hold s t i at ds (tablesFrom s fuel i at t)
 unfolding declarationsAt tablesFrom
 tables-hold s zero i at t ds e = absurd (let v : _≡_ {A = ℕ} 0 1 = cc in omega arith)
 tables-hold s (suc fuel) i at t ds e = by (declAt s at) refl e (tables-hold s fuel)
   where
     Ih : Type 0
-    Ih = (j q : ℕ) (u : Tables) (es : List Declaration) → declarationsAt s fuel q ≡ declarationsAre es → HoldIn u j es (tablesFrom s fuel j q u)
+    Ih = (j q : ℕ) (u : Tables) (es : List Declaration) → declarationsAt s fuel q ≡ declarationsAre es → Hold s u j q es (tablesFrom s fuel j q u)
 
     -- the declarations behind the first, and the tables with it
     tail : Bool → ℕ → Declarations
     tail b q = elim b [ true ↦ declarationsAt s fuel q | false ↦ declarationsAre [] ]
 
-    next : DeclDesc → ℕ → List Field → Tables
-    next d p xs = withPlace (withFields t i (placesBehind s d p)) i at (length xs)
+    next : Decl → ℕ → List Field → Tables
+    next d p xs = withDecl (withFields t i (upToBehind s (d .desc) p)) i d (length xs)
 
     filled : Bool → ℕ → Tables → Tables
     filled b q u = elim b [ true ↦ tablesFrom s fuel (i + 1) q u | false ↦ u ]
 
-    on-tail : Ih → (b : Bool) (q : ℕ) (u : Tables) (es : List Declaration) → tail b q ≡ declarationsAre es → HoldIn u (i + 1) es (filled b q u)
-    on-tail ih true q u es h = ih (i + 1) q u es h
-    on-tail ih false q u es h = subst (λ (l : List Declaration). HoldIn u (i + 1) l u) (let z : [] ≡ es = cc in z) (hold-none u (i + 1))
+    on-tail : Ih → (b : Bool) (q : ℕ) → q ≤ length s → (u : Tables) (es : List Declaration) → tail b q ≡ declarationsAre es
+        → Hold s u (i + 1) q es (filled b q u)
+    on-tail ih true q l u es h = ih (i + 1) q u es h
+    on-tail ih false q l u es h =
+        subst (λ (x : List Declaration). Hold s u (i + 1) q x u) (let z : [] ≡ es = cc in z) (hold-none s u (i + 1) q l)
 
-    with-tail : (d : Decl) (xs : List Field) (p : ℕ) (u : Tables) → d .key ≡ at → placesBehind s (d .desc) p ≡ fieldKeys xs → (r : Declarations)
-        → ((es : List Declaration) → r ≡ declarationsAre es → HoldIn (next (d .desc) p xs) (i + 1) es u)
-        → withDeclaration (record { decl = d; fields = xs }) r ≡ declarationsAre ds → HoldIn t i ds u
-    with-tail d xs p u ek ep (declarationsAre es) k h =
-        subst (λ (l : List Declaration). HoldIn t i l u) (let z : record { decl = d; fields = xs } ∷ es ≡ ds = cc in z)
-        (hold-more t i at d xs (placesBehind s (d .desc) p) es u ek ep (k es refl))
-    with-tail d xs p u ek ep noDeclarations k h = absurd (let v : _≡_ {A = ℕ} 0 1 = cc in omega arith)
+    with-tail : (d : Decl) (xs : List Field) (p q : ℕ) (u : Tables) → upToBehind s (d .desc) p ≡ xs → Apart at xs q → (r : Declarations)
+        → ((es : List Declaration) → r ≡ declarationsAre es → Hold s (next d p xs) (i + 1) q es u)
+        → withDeclaration (record { decl = d; fields = xs }) r ≡ declarationsAre ds → Hold s t i at ds u
+    with-tail d xs p q u e a (declarationsAre es) k h =
+        subst (λ (x : List Declaration). Hold s t i at x u) (let z : record { decl = d; fields = xs } ∷ es ≡ ds = cc in z)
+        (hold-more s t i at d xs (upToBehind s (d .desc) p) q es u e a (k es refl))
+    with-tail d xs p q u e a noDeclarations k h = absurd (let v : _≡_ {A = ℕ} 0 1 = cc in omega arith)
 
-    on-fields : (d : Decl) (p : ℕ) → d .key ≡ at → (f : Fields) → fieldsBehind s (d .desc) p ≡ f
+    on-fields : (d : Decl) (p : ℕ) → Ends (at + 16) (length s) p → (f : Fields) → fieldsBehind s (d .desc) p ≡ f
         → onFields f noDeclarations (λ xs q. withDeclaration (record { decl = d; fields = xs }) (tail (ltb q (length s)) q)) ≡ declarationsAre ds → Ih
-        → HoldIn t i ds (onFields f (withFields t i (placesBehind s (d .desc) p)) λ xs q. filled (ltb q (length s)) q (next (d .desc) p xs))
-    on-fields d p ek (fieldsAre xs q) ef h ih =
-        with-tail d xs p (filled (ltb q (length s)) q (next (d .desc) p xs)) ek (behind-again s (d .desc) p xs q ef .places) (tail (ltb q (length s)) q)
-        (on-tail ih (ltb q (length s)) q (next (d .desc) p xs)) h
-    on-fields d p ek noFields ef h ih = absurd (let v : _≡_ {A = ℕ} 0 1 = cc in omega arith)
+        → Hold s t i at ds (onFields f (withFields t i (upToBehind s (d .desc) p)) λ xs q. filled (ltb q (length s)) q (next d p xs))
+    on-fields d p n (fieldsAre xs q) ef h ih =
+        let b : Follow s (upToBehind s (d .desc) p) p xs q = behind-follow s (d .desc) p xs q ef in
+        with-tail d xs p q (filled (ltb q (length s)) q (next d p xs)) (b .read) (apart-from at p q xs (omega (arith, n .least)) (b .apart))
+        (tail (ltb q (length s)) q) (on-tail ih (ltb q (length s)) q (b .inside (n .most)) (next d p xs)) h
+    on-fields d p n noFields ef h ih = absurd (let v : _≡_ {A = ℕ} 0 1 = cc in omega arith)
 
     by : (g : DeclRead) → declAt s at ≡ g
         → onDecl g noDeclarations (λ d p. onFields (fieldsBehind s (d .desc) p) noDeclarations λ xs q. withDeclaration (record { decl = d; fields = xs }) (tail (ltb q (length s)) q)) ≡ declarationsAre ds
         → Ih
-        → HoldIn t i ds (onDecl g t λ d p. onFields (fieldsBehind s (d .desc) p) (withFields t i (placesBehind s (d .desc) p)) λ xs q. filled (ltb q (length s)) q (next (d .desc) p xs))
-    by (DeclRead.Is d p) eg h ih = on-fields d p (decl-key s at d p eg) (fieldsBehind s (d .desc) p) refl h ih
-    by DeclRead.Wrong eg h ih = absurd (let v : _≡_ {A = ℕ} 0 1 = cc in omega arith)
-
--- ---- what is read again
-
--- each declaration is read again at its key, and so are its fields
-data Backs (s : Text) : List Declaration → Type 0 where
-  done : Backs s []
-  more : {d : Declaration} {ds : List Declaration} → declHere s (d .decl .key) ≡ d .decl → fieldsHere s (fieldKeys (d .fields)) ≡ d .fields → Backs s ds → Backs s (d ∷ ds)
-
-record-again : (s : Text) (fuel at : ℕ) (ds : List Declaration) → declarationsAt s fuel at ≡ declarationsAre ds → Backs s ds
-unfolding declarationsAt
-record-again s zero at ds e = absurd (let v : _≡_ {A = ℕ} 0 1 = cc in omega arith)
-record-again s (suc fuel) at ds e = by (declAt s at) refl e
-    (record-again s fuel)
-  where
-    Ih : Type 0
-    Ih = (q : ℕ) (es : List Declaration) → declarationsAt s fuel q ≡ declarationsAre es → Backs s es
-
-    tail : Bool → ℕ → Declarations
-    tail b q = elim b [ true ↦ declarationsAt s fuel q | false ↦ declarationsAre [] ]
-
-    with-tail : (d : Decl) (xs : List Field) → declHere s (d .key) ≡ d → fieldsHere s (fieldKeys xs) ≡ xs → (r : Declarations) → ((es : List Declaration) → r ≡ declarationsAre es → Backs s es)
-        → withDeclaration (record { decl = d; fields = xs }) r ≡ declarationsAre ds → Backs s ds
-    with-tail d xs hd hx (declarationsAre es) k h = subst (Backs s) (let z : record { decl = d; fields = xs } ∷ es ≡ ds = cc in z) (more hd hx (k es refl))
-    with-tail d xs hd hx noDeclarations k h = absurd (let v : _≡_ {A = ℕ} 0 1 = cc in omega arith)
-
-    tail-backs : Ih → (b : Bool) (q : ℕ) (es : List Declaration) → tail b q ≡ declarationsAre es → Backs s es
-    tail-backs ih true q es h = ih q es h
-    tail-backs ih false q es h = subst (Backs s) (let z : [] ≡ es = cc in z) done
-
-    on-fields : (d : Decl) (p : ℕ) → declHere s (d .key) ≡ d → (f : Fields) → fieldsBehind s (d .desc) p ≡ f
-        → onFields f noDeclarations (λ xs q. withDeclaration (record { decl = d; fields = xs }) (tail (ltb q (length s)) q)) ≡ declarationsAre ds → Ih → Backs s ds
-    on-fields d p hd (fieldsAre xs q) ef h ih = with-tail d xs hd (behind-again s (d .desc) p xs q ef .back) (tail (ltb q (length s)) q) (tail-backs ih (ltb q (length s)) q) h
-    on-fields d p hd noFields ef h ih = absurd (let v : _≡_ {A = ℕ} 0 1 = cc in omega arith)
-
-    by : (g : DeclRead) → declAt s at ≡ g
-        → onDecl g noDeclarations (λ d p. onFields (fieldsBehind s (d .desc) p) noDeclarations λ xs q. withDeclaration (record { decl = d; fields = xs }) (tail (ltb q (length s)) q)) ≡ declarationsAre ds
-        → Ih → Backs s ds
-    by (DeclRead.Is d p) eg h ih = on-fields d p (decl-again s at d p eg) (fieldsBehind s (d .desc) p) refl h ih
+        → Hold s t i at ds (onDecl g t λ d p.
+        onFields (fieldsBehind s (d .desc) p) (withFields t i (upToBehind s (d .desc) p)) λ xs q. filled (ltb q (length s)) q (next d p xs))
+    by (DeclRead.Is d p) eg h ih = on-fields d p (decl-ends s at d p eg) (fieldsBehind s (d .desc) p) refl h ih
     by DeclRead.Wrong eg h ih = absurd (let v : _≡_ {A = ℕ} 0 1 = cc in omega arith)
 
 -- ---- runs of stores
-
-getD-below : (l : List ℕ) (i : ℕ) (vs : List ℕ) (j : ℕ) → j < i → getD (sets l i vs) j 0 ≡ getD l j 0
-getD-below l i [] j h = refl
-getD-below l i (v ∷ vs) j h = getD-below (set l i v) (suc i) vs j (omega arith) ∙ getD-set-other l i j v 0 (λ e. omega arith)
 
 take-below : (l : List ℕ) (i : ℕ) (vs : List ℕ) (n : ℕ) → n ≤ i → take n (sets l i vs) ≡ take n l
 take-below l i [] n h = refl
 take-below l i (v ∷ vs) n h = take-below (set l i v) (suc i) vs n (omega arith) ∙ take-set-le n l i v h
 
-rows-below : (t : List ℕ) (i : ℕ) (ds : List Declaration) (n : ℕ) → n ≤ i * 64 → take n (fieldRows t i ds) ≡ take n t
-rows-below t i [] n h = refl
-rows-below t i (d ∷ ds) n h =
-    rows-below (sets t (i * 64) (fieldKeys (d .fields))) (i + 1) ds n (omega arith) ∙ take-below t (i * 64) (fieldKeys (d .fields)) n h
+places-below : (t : List ℕ) (i : ℕ) (ds : List Declaration) (n : ℕ) → n ≤ i * 64 → take n (withPlaces t i ds) ≡ take n t
+places-below t i [] n h = refl
+places-below t i (d ∷ ds) n h =
+    places-below (sets t (i * 64) (fieldKeys (d .fields))) (i + 1) ds n (omega arith) ∙ take-below t (i * 64) (fieldKeys (d .fields)) n h
 
-rows-length : (t : List ℕ) (i : ℕ) (ds : List Declaration) → length (fieldRows t i ds) ≡ length t
-rows-length t i [] = refl
-rows-length t i (d ∷ ds) = rows-length (sets t (i * 64) (fieldKeys (d .fields))) (i + 1) ds ∙ length-sets t (i * 64) (fieldKeys (d .fields))
+places-length : (t : List ℕ) (i : ℕ) (ds : List Declaration) → length (withPlaces t i ds) ≡ length t
+places-length t i [] = refl
+places-length t i (d ∷ ds) = places-length (sets t (i * 64) (fieldKeys (d .fields))) (i + 1) ds ∙ length-sets t (i * 64) (fieldKeys (d .fields))
 
 -- what stands in an interval is known from what stands up to its end
 middle : (b n : ℕ) (l : List ℕ) → b ≤ length l → take n (drop b l) ≡ drop b (take (b + n) l)
@@ -172,47 +140,149 @@ stored t b vs h =
     ∙ ap (take (length vs)) (drop-at (take b t) (vs ++ drop (b + length vs) t) b (length-take-le b t (omega arith)))
     ∙ take-at vs (drop (b + length vs) t) (length vs) refl
 
--- ---- the counts, also of a declaration with more than 64 fields
+-- ---- tables with the same numbers below n
 
-pub data Counted (z : List ℕ) : ℕ → List Declaration → Type 0 where
-  done : {i : ℕ} → Counted z i []
-  more : {i : ℕ} {d : Declaration} {ds : List Declaration} → getD z i 0 ≡ length (d .fields) → Counted z (i + 1) ds → Counted z i (d ∷ ds)
+abbrev Same : ℕ → List ℕ → List ℕ → Type 0
+Same n a b = (k : ℕ) → k < n → getD a k 0 ≡ getD b k 0
 
-hold-counted : (ds : List Declaration) (c : List ℕ) (i : ℕ) (z : List ℕ) → z ≡ sets c i (fieldCounts ds) → i + length ds ≤ length c → Counted z i ds
-hold-counted [] c i z e h = Counted.done
-hold-counted (d ∷ ds) c i z e h =
-    Counted.more
-    (ap (λ (l : List ℕ). getD l i 0) e ∙ getD-below (set c i (length (d .fields))) (suc i) (fieldCounts ds) i (omega arith) ∙ getD-set-same c i (length (d .fields)) 0 (omega arith))
-    (hold-counted ds (set c i (length (d .fields))) (i + 1) z (rw (add-one i) e) (omega (arith, length-set c i (length (d .fields)))))
+field-kept : (a b : List ℕ) (at n : ℕ) → Same n a b → at / 16 * 17 + 17 ≤ n → fieldHere a at ≡ fieldHere b at
+unfolding fieldHere
+field-kept a b at n e h = field-same a b (at / 16 * 17) (at / 16 * 17) (λ k l. e (at / 16 * 17 + k) (omega (arith, l, h)))
 
-pub counts-give : (s : Text) (fuel at : ℕ) (t : Tables) (ds : List Declaration) → declarationsAt s fuel at ≡ declarationsAre ds → length ds ≤ length (t .counts)
-    → Counted (tablesFrom s fuel 0 at t .counts) 0 ds
-counts-give s fuel at t ds e h = hold-counted ds (t .counts) 0 (tablesFrom s fuel 0 at t .counts) (tables-hold s fuel 0 at t ds e .counts-are) (omega arith)
+decl-kept : (a b : List ℕ) (i : ℕ) → Same ((i + 1) * 11) a b → declHere a i ≡ declHere b i
+unfolding declHere
+decl-kept a b i e = decl-same a b (i * 11) (i * 11) (λ k l. e (i * 11 + k) (omega (arith, l)))
 
--- ---- the rows of the tables
+count-kept : (a b : List ℕ) (i : ℕ) → Same ((i + 1) * 11) a b → countHere a i ≡ countHere b i
+count-kept a b i e = e (i * 11 + 7) (omega arith)
 
-data Rows (x y z : List ℕ) : ℕ → List Declaration → Type 0 where
-  done : {i : ℕ} → Rows x y z i []
-  more : {i : ℕ} {d : Declaration} {ds : List Declaration} → getD x i 0 ≡ d .decl .key → getD z i 0 ≡ length (d .fields)
-      → i * 64 + length (d .fields) ≤ length y → take (length (d .fields)) (drop (i * 64) y) ≡ fieldKeys (d .fields) → Rows x y z (i + 1) ds → Rows x y z i (d ∷ ds)
+-- ---- the values: fields that are 16 bytes or more apart have numbers of their own
+
+-- what stands at places
+abbrev fieldsHere : List ℕ → List ℕ → List Field
+fieldsHere v [] = []
+fieldsHere v (p ∷ ps) = fieldHere v p ∷ fieldsHere v ps
+
+apart-order : (low end : ℕ) (xs : List Field) → Apart low xs end → low ≤ end
+apart-order low end [] (Apart.done h) = h
+apart-order low end (x ∷ xs) (Apart.more h a) = omega (arith, apart-order (x .key + 16) end xs a)
+
+spaced-order : (low end : ℕ) (ds : List Declaration) → Spaced low ds end → low ≤ end
+spaced-order low end [] (Spaced.done h) = h
+spaced-order low end (d ∷ ds) (Spaced.more mid a p) = omega (arith, apart-order low mid (d .fields) a, spaced-order mid end ds p)
+
+length-values : (v : List ℕ) (xs : List Field) → length (withValues v xs) ≡ length v
+length-values v [] = refl
+length-values v (x ∷ xs) = length-values (sets v (x .key / 16 * 17) (fieldWords x)) xs ∙ length-sets v (x .key / 16 * 17) (fieldWords x)
+
+values-below : (v : List ℕ) (low end : ℕ) (xs : List Field) → Apart low xs end → Same (low / 16 * 17) (withValues v xs) v
+values-below v low end [] a k h = refl
+values-below v low end (x ∷ xs) (Apart.more l a) k h =
+    values-below (sets v (x .key / 16 * 17) (fieldWords x)) (x .key + 16) end xs a k (omega arith)
+    ∙ getD-before v (x .key / 16 * 17) (fieldWords x) k (omega arith)
+
+all-below : (v : List ℕ) (low end : ℕ) (ds : List Declaration) → Spaced low ds end → Same (low / 16 * 17) (withAll v ds) v
+all-below v low end [] a k h = refl
+all-below v low end (d ∷ ds) (Spaced.more mid a p) k h =
+    all-below (withValues v (d .fields)) mid end ds p k (omega (arith, apart-order low mid (d .fields) a))
+    ∙ values-below v low mid (d .fields) a k h
+
+fields-kept : (a b : List ℕ) (low end : ℕ) (xs : List Field) → Apart low xs end → Same (end / 16 * 17) a b
+    → fieldsHere a (fieldKeys xs) ≡ fieldsHere b (fieldKeys xs)
+fields-kept a b low end [] p e = refl
+fields-kept a b low end (x ∷ xs) (Apart.more l p) e =
+    rw (field-kept a b (x .key) (end / 16 * 17) e (omega (arith, apart-order (x .key + 16) end xs p)), fields-kept a b (x .key + 16) end xs p e)
+
+values-back : (v : List ℕ) (low end : ℕ) (xs : List Field) → Apart low xs end → end / 16 * 17 ≤ length v
+    → fieldsHere (withValues v xs) (fieldKeys xs) ≡ xs
+values-back v low end [] a h = refl
+values-back v low end (x ∷ xs) (Apart.more l a) h =
+    rw (here, values-back v₁ (x .key + 16) end xs a (omega (arith, length-sets v (x .key / 16 * 17) (fieldWords x))))
+  where
+    v₁ : List ℕ
+    v₁ = sets v (x .key / 16 * 17) (fieldWords x)
+
+    here : fieldHere (withValues v₁ xs) (x .key) ≡ x
+    here =
+        field-kept (withValues v₁ xs) v₁ (x .key) ((x .key + 16) / 16 * 17) (values-below v₁ (x .key + 16) end xs a) (omega arith)
+        ∙ here-again v (x .key) x (omega (arith, apart-order (x .key + 16) end xs a))
+
+-- the fields of each declaration are read back at their keys
+data Backs (v : List ℕ) : List Declaration → Type 0 where
+  done : Backs v []
+  more : {d : Declaration} {ds : List Declaration} → fieldsHere v (fieldKeys (d .fields)) ≡ d .fields → Backs v ds → Backs v (d ∷ ds)
+
+all-back : (v : List ℕ) (low end : ℕ) (ds : List Declaration) → Spaced low ds end → end / 16 * 17 ≤ length v → Backs (withAll v ds) ds
+all-back v low end [] p h = Backs.done
+all-back v low end (d ∷ ds) (Spaced.more mid a p) h =
+    Backs.more
+    (fields-kept (withAll v₁ ds) v₁ low mid (d .fields) a (all-below v₁ mid end ds p)
+    ∙ values-back v low mid (d .fields) a (omega (arith, spaced-order mid end ds p)))
+    (all-back v₁ mid end ds p (omega (arith, length-values v (d .fields))))
+  where
+    v₁ : List ℕ
+    v₁ = withValues v (d .fields)
+
+-- ---- the rows
+
+rows-below : (t : List ℕ) (i : ℕ) (ds : List Declaration) → Same (i * 11) (withRows t i ds) t
+rows-below t i [] k h = refl
+rows-below t i (d ∷ ds) k h =
+    rows-below (withRow t i (d .decl) (length (d .fields))) (i + 1) ds k (omega arith)
+    ∙ getD-before t (i * 11) (declWords (d .decl) ++ (length (d .fields) ∷ [])) k h
+
+length-row : (t : List ℕ) (i : ℕ) (d : Decl) (n : ℕ) → length (withRow t i d n) ≡ length t
+length-row t i d n = length-sets t (i * 11) (declWords d ++ (n ∷ []))
+
+-- the counts, also of a declaration with more than 64 fields
+pub data Counted (rows : List ℕ) : ℕ → List Declaration → Type 0 where
+  done : {i : ℕ} → Counted rows i []
+  more : {i : ℕ} {d : Declaration} {ds : List Declaration} → countHere rows i ≡ length (d .fields) → Counted rows (i + 1) ds → Counted rows i (d ∷ ds)
+
+module _ (t : List ℕ) (i : ℕ) (d : Declaration) (ds : List Declaration) (h : (i + 1) * 11 ≤ length t) where
+  first-kept : Same ((i + 1) * 11) (withRows t i (d ∷ ds)) (withRow t i (d .decl) (length (d .fields)))
+  first-kept = rows-below (withRow t i (d .decl) (length (d .fields))) (i + 1) ds
+
+  first-count : countHere (withRows t i (d ∷ ds)) i ≡ length (d .fields)
+  first-count =
+      count-kept (withRows t i (d ∷ ds)) (withRow t i (d .decl) (length (d .fields))) i first-kept
+      ∙ count-again t i (d .decl) (length (d .fields)) (omega arith)
+
+  first-decl : declHere (withRows t i (d ∷ ds)) i ≡ d .decl
+  first-decl =
+      decl-kept (withRows t i (d ∷ ds)) (withRow t i (d .decl) (length (d .fields))) i first-kept
+      ∙ decl-again t i (d .decl) (length (d .fields)) (omega arith)
+
+rows-counted : (ds : List Declaration) (t : List ℕ) (i : ℕ) → (i + length ds) * 11 ≤ length t → Counted (withRows t i ds) i ds
+rows-counted [] t i h = Counted.done
+rows-counted (d ∷ ds) t i h =
+    Counted.more (first-count t i d ds (omega arith))
+    (rows-counted ds (withRow t i (d .decl) (length (d .fields))) (i + 1) (omega (arith, length-row t i (d .decl) (length (d .fields)))))
+
+pub counts-give : (s : Text) (fuel at : ℕ) (t : Tables) (ds : List Declaration) → declarationsAt s fuel at ≡ declarationsAre ds
+    → length ds * 11 ≤ length (t .rows) → Counted (tablesFrom s fuel 0 at t .rows) 0 ds
+counts-give s fuel at t ds e h =
+    subst (λ (l : List ℕ). Counted l 0 ds) (sym (tables-hold s fuel 0 at t ds e .rows-are)) (rows-counted ds (t .rows) 0 (omega arith))
+
+-- ---- each row of the tables is its declaration
+
+data Rows (rows fields : List ℕ) : ℕ → List Declaration → Type 0 where
+  done : {i : ℕ} → Rows rows fields i []
+  more : {i : ℕ} {d : Declaration} {ds : List Declaration} → declHere rows i ≡ d .decl → countHere rows i ≡ length (d .fields)
+      → i * 64 + length (d .fields) ≤ length fields → take (length (d .fields)) (drop (i * 64) fields) ≡ fieldKeys (d .fields)
+      → Rows rows fields (i + 1) ds → Rows rows fields i (d ∷ ds)
 
 -- at most 64 fields in each
 pub data Short : List Declaration → Type 0 where
   done : Short []
   more : {d : Declaration} {ds : List Declaration} → length (d .fields) ≤ 64 → Short ds → Short (d ∷ ds)
 
-hold-rows : (ds : List Declaration) (p f c : List ℕ) (i : ℕ) (x y z : List ℕ) → Hold p f c i ds x y z → Short ds
-    → i + length ds ≤ length p → i + length ds ≤ length c → (i + length ds) * 64 ≤ length f → Rows x y z i ds
-hold-rows [] p f c i x y z h k lp lc lf = Rows.done
-hold-rows (d ∷ ds) p f c i x y z h (Short.more small k) lp lc lf =
-    Rows.more
-    (ap (λ (l : List ℕ). getD l i 0) (h .places-are) ∙ getD-below (set p i (d .decl .key)) (suc i) (declKeys ds) i (omega arith) ∙ getD-set-same p i (d .decl .key) 0 (omega arith))
-    (ap (λ (l : List ℕ). getD l i 0) (h .counts-are) ∙ getD-below (set c i (length (d .fields))) (suc i) (fieldCounts ds) i (omega arith) ∙ getD-set-same c i (length (d .fields)) 0 (omega arith))
-    long
-    row
-    (hold-rows ds (set p i (d .decl .key)) f₁ (set c i (length (d .fields))) (i + 1) x y z
-    (record { places-are = rw (add-one i) (h .places-are); fields-are = h .fields-are; counts-are = rw (add-one i) (h .counts-are) })
-    k (omega (arith, length-set p i (d .decl .key))) (omega (arith, length-set c i (length (d .fields)))) (omega (arith, length-sets f (i * 64) keys)))
+rows-hold : (ds : List Declaration) (t f : List ℕ) (i : ℕ) → Short ds → (i + length ds) * 11 ≤ length t → (i + length ds) * 64 ≤ length f
+    → Rows (withRows t i ds) (withPlaces f i ds) i ds
+rows-hold [] t f i k lt lf = Rows.done
+rows-hold (d ∷ ds) t f i (Short.more small k) lt lf =
+    Rows.more (first-decl t i d ds (omega arith)) (first-count t i d ds (omega arith)) long row
+    (rows-hold ds (withRow t i (d .decl) n) f₁ (i + 1) k (omega (arith, length-row t i (d .decl) n)) (omega (arith, length-sets f (i * 64) keys)))
   where
     keys : List ℕ
     keys = fieldKeys (d .fields)
@@ -223,17 +293,19 @@ hold-rows (d ∷ ds) p f c i x y z h (Short.more small k) lp lc lf =
     f₁ : List ℕ
     f₁ = sets f (i * 64) keys
 
+    y : List ℕ
+    y = withPlaces f₁ (i + 1) ds
+
     fits : i * 64 + length keys ≤ length f
     fits = omega (arith, keys-length (d .fields))
 
     long : i * 64 + length (d .fields) ≤ length y
-    long = omega (arith, ap length (h .fields-are), rows-length f₁ (i + 1) ds, length-sets f (i * 64) keys)
+    long = omega (arith, places-length f₁ (i + 1) ds, length-sets f (i * 64) keys)
 
     row : take n (drop (i * 64) y) ≡ keys
     row =
-        ap (λ (l : List ℕ). take n (drop (i * 64) l)) (h .fields-are)
-        ∙ middle (i * 64) n (fieldRows f₁ (i + 1) ds) (omega (arith, rows-length f₁ (i + 1) ds, length-sets f (i * 64) keys))
-        ∙ ap (drop (i * 64)) (rows-below f₁ (i + 1) ds (i * 64 + n) (omega arith))
+        middle (i * 64) n y (omega (arith, places-length f₁ (i + 1) ds, length-sets f (i * 64) keys))
+        ∙ ap (drop (i * 64)) (places-below f₁ (i + 1) ds (i * 64 + n) (omega arith))
         ∙ sym (middle (i * 64) n f₁ (omega (arith, length-sets f (i * 64) keys)))
         ∙ ap (λ (m : ℕ). take m (drop (i * 64) f₁)) (sym (keys-length (d .fields)))
         ∙ stored f (i * 64) keys fits
@@ -241,29 +313,30 @@ hold-rows (d ∷ ds) p f c i x y z h (Short.more small k) lp lc lf =
 declaration-is : (a : Decl) (b : List Field) (d : Declaration) → a ≡ d .decl → b ≡ d .fields → record { decl = a; fields = b } ≡ d
 declaration-is a b d ea eb = rw (ea, eb)
 
-from-take : (s : Text) (y : List ℕ) (b n : ℕ) → b + n ≤ length y → fieldsFrom s y b n ≡ fieldsHere s (take n (drop b y))
+from-take : (v y : List ℕ) (b n : ℕ) → b + n ≤ length y → fieldsFrom v y b n ≡ fieldsHere v (take n (drop b y))
 unfolding fieldsFrom
-from-take s y b zero h = refl
-from-take s y b (suc n) h = rw (drop-cons y b 0 (omega arith), ← add-one b) (ap (λ (l : List Field). fieldHere s (getD y b 0) ∷ l) (from-take s y (b + 1) n (omega arith)))
+from-take v y b zero h = refl
+from-take v y b (suc n) h =
+    rw (drop-cons y b 0 (omega arith), ← add-one b) (ap (λ (l : List Field). fieldHere v (getD y b 0) ∷ l) (from-take v y (b + 1) n (omega arith)))
 
-rows-give : (s : Text) (x y z : List ℕ) (i : ℕ) (ds : List Declaration) → Rows x y z i ds → Backs s ds → declarationsFrom s x y z i (length ds) ≡ ds
+rows-give : (x v y : List ℕ) (i : ℕ) (ds : List Declaration) → Rows x y i ds → Backs v ds → declarationsFrom x v y i (length ds) ≡ ds
 unfolding declarationsFrom
-rows-give s x y z i [] Rows.done Backs.done = refl
-rows-give s x y z i (d ∷ ds) (Rows.more ex ez ly ey r) (Backs.more hd hf b) =
-    ap (λ (l : List Declaration). declarationIn s x y z i ∷ l) (rows-give s x y z (i + 1) ds r b)
+rows-give x v y i [] Rows.done Backs.done = refl
+rows-give x v y i (d ∷ ds) (Rows.more ex ez ly ey r) (Backs.more hf b) =
+    ap (λ (l : List Declaration). declarationIn x v y i ∷ l) (rows-give x v y (i + 1) ds r b)
     ∙ ap (λ (e : Declaration). e ∷ ds)
-    (declaration-is (declHere s (getD x i 0)) (fieldsFrom s y (i * 64) (getD z i 0)) d
-    (ap (declHere s) ex ∙ hd)
-    (ap (fieldsFrom s y (i * 64)) ez ∙ from-take s y (i * 64) (length (d .fields)) ly ∙ ap (fieldsHere s) ey ∙ hf))
+    (declaration-is (declHere x i) (fieldsFrom v y (i * 64) (countHere x i)) d ex
+    (ap (fieldsFrom v y (i * 64)) ez ∙ from-take v y (i * 64) (length (d .fields)) ly ∙ ap (fieldsHere v) ey ∙ hf))
 
 -- THE BRIDGE: tables that are long enough give the declarations of the record back
 pub tables-give : (s : Text) (fuel at : ℕ) (t : Tables) (ds : List Declaration) → declarationsAt s fuel at ≡ declarationsAre ds → Short ds
-    → length ds ≤ length (t .places) → length ds ≤ length (t .counts) → length ds * 64 ≤ length (t .fields)
-    → given s (tablesFrom s fuel 0 at t) (length ds) ≡ ds
-tables-give s fuel at t ds e k lp lc lf =
-    rows-give s (u .places) (u .fields) (u .counts) 0 ds
-    (hold-rows ds (t .places) (t .fields) (t .counts) 0 (u .places) (u .fields) (u .counts) (tables-hold s fuel 0 at t ds e) k (omega arith) (omega arith) (omega arith))
-    (record-again s fuel at ds e)
+    → length ds * 11 ≤ length (t .rows) → length s / 16 * 17 ≤ length (t .values) → length ds * 64 ≤ length (t .fields)
+    → given (tablesFrom s fuel 0 at t) (length ds) ≡ ds
+tables-give s fuel at t ds e k lr lv lf =
+    rw (h .rows-are, h .values-are, h .fields-are)
+    (rows-give (withRows (t .rows) 0 ds) (withAll (t .values) ds) (withPlaces (t .fields) 0 ds) 0 ds
+    (rows-hold ds (t .rows) (t .fields) 0 k (omega arith) (omega arith))
+    (all-back (t .values) at (length s) ds (h .spaced) lv))
   where
-    u : Tables
-    u = tablesFrom s fuel 0 at t
+    h : Hold s t 0 at ds (tablesFrom s fuel 0 at t)
+    h = tables-hold s fuel 0 at t ds e

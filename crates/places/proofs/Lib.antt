@@ -1,5 +1,4 @@
-pub mod Again
-pub mod Search
+pub mod Ends
+pub mod Keys
 pub mod Filling
 pub mod Give
-pub mod Walks

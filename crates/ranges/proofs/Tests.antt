@@ -12,15 +12,15 @@ use lib.ListN.{length, getD}
 use Rattle.definitions.specs.Bytes.{any}
 use Rattle.definitions.specs.Record.{Declaration}
 use Rattle.definitions.specs.Refusals.{tooMany, outside, badMaybe, badModifier, badNumber, badDecl, badWidth, badCount, outOfRange}
-use Rattle.definitions.specs.Tables.{fieldHere, declHere, fieldsFrom, declarationIn, declarationsFrom}
+use Rattle.tables.specs.Tables.{fieldHere, declHere, countHere, fieldsFrom, declarationIn, declarationsFrom}
 use Rattle.definitions.specs.declared.MaybeNumber.{MaybeNumber}
 use Rattle.definitions.specs.declared.Modifier.{Modifier}
 use Rattle.definitions.specs.declared.FieldDesc.{FieldDesc}
 use Rattle.definitions.specs.declared.DeclDesc.{DeclDesc}
 use Rattle.definitions.specs.declared.Field.{Field}
 use Rattle.definitions.specs.declared.Decl.{Decl}
-use Rattle.places.proofs.Walks.{length-declarations, length-fields, any-fields-start, any-fields-end, any-fields-found, any-fields-turn, any-declarations-end, any-declarations-found, any-declarations-turn, any-declarations-false}
-use Rattle.ranges.specs.Ranges.{counted, badField, badNumbers}
+use Rattle.tables.proofs.Walks.{length-declarations, length-fields, any-fields-start, any-fields-end, any-fields-found, any-fields-turn, any-declarations-end, any-declarations-found, any-declarations-turn, any-declarations-false}
+use Rattle.ranges.specs.Ranges.{bare, badField, badNumbers}
 
 -- ---- 3
 
@@ -29,30 +29,30 @@ abbrev pub long : Declaration → Bool
 long d = ltb 64 (length (d .fields))
 
 module _ (c : List ℕ) (n : ℕ) where
-  pub many-declarations : 32 < n → true ≡ tooMany (counted c n)
+  pub many-declarations : 32 < n → true ≡ tooMany (bare c n)
   unfolding tooMany
-  many-declarations h = rw (length-declarations [] [] [] c 0 n, lt-ltb 32 n h)
+  many-declarations h = rw (length-declarations c [] [] 0 n, lt-ltb 32 n h)
 
-  pub many-start : n ≤ 32 → any long (declarationsFrom [] [] [] c 0 (n - 0)) ≡ tooMany (counted c n)
+  pub many-start : n ≤ 32 → any long (declarationsFrom c [] [] 0 (n - 0)) ≡ tooMany (bare c n)
   unfolding tooMany
-  many-start h = rw (length-declarations [] [] [] c 0 n, le-ltb 32 n h, sub-zero)
+  many-start h = rw (length-declarations c [] [] 0 n, le-ltb 32 n h, sub-zero)
 
-  module _ (i : ℕ) {e : Bool} (inv : any long (declarationsFrom [] [] [] c i (n - i)) ≡ e) where
+  module _ (i : ℕ) {e : Bool} (inv : any long (declarationsFrom c [] [] i (n - i)) ≡ e) where
     pub many-end : n ≤ i → false ≡ e
-    many-end h = any-declarations-end long [] [] [] c n i inv h
+    many-end h = any-declarations-end long c [] [] n i inv h
 
-    module _ (h : i < n) {m : ℕ} (em : m ≡ getD c i 0) where
-      fields-of : length (fieldsFrom [] [] (i * 64) (getD c i 0)) ≡ m
-      fields-of = length-fields [] [] (i * 64) (getD c i 0) ∙ sym em
+    module _ (h : i < n) {m : ℕ} (em : m ≡ countHere c i) where
+      fields-of : length (fieldsFrom [] [] (i * 64) (countHere c i)) ≡ m
+      fields-of = length-fields [] [] (i * 64) (countHere c i) ∙ sym em
 
       pub many-found : 64 < m → true ≡ e
-      many-found k = any-declarations-found long [] [] [] c n i inv h (ap (ltb 64) fields-of ∙ lt-ltb 64 m k)
+      many-found k = any-declarations-found long c [] [] n i inv h (ap (ltb 64) fields-of ∙ lt-ltb 64 m k)
 
-      pub many-turn : m ≤ 64 → any long (declarationsFrom [] [] [] c (i + 1) (n - (i + 1))) ≡ e
-      many-turn k = any-declarations-turn long [] [] [] c n i inv h (ap (ltb 64) fields-of ∙ le-ltb 64 m k)
+      pub many-turn : m ≤ 64 → any long (declarationsFrom c [] [] (i + 1) (n - (i + 1))) ≡ e
+      many-turn k = any-declarations-turn long c [] [] n i inv h (ap (ltb 64) fields-of ∙ le-ltb 64 m k)
 
   -- where 3 is not met
-  module _ (few : tooMany (counted c n) ≡ false) where
+  module _ (few : tooMany (bare c n) ≡ false) where
     split : (a b : Bool) → a || b ≡ false → (a ≡ false) × (b ≡ false)
     split false false e = (refl, refl)
     split false true e = (refl, e)
@@ -61,17 +61,17 @@ module _ (c : List ℕ) (n : ℕ) where
     pub few-declarations : n ≤ 32
     unfolding tooMany
     few-declarations =
-        ltb-false 32 n (sym (ap (ltb 32) (length-declarations [] [] [] c 0 n)) ∙ split (ltb 32 (length (counted c n))) (any long (counted c n)) few .0)
+        ltb-false 32 n (sym (ap (ltb 32) (length-declarations c [] [] 0 n)) ∙ split (ltb 32 (length (bare c n))) (any long (bare c n)) few .0)
 
     pub few-index : (i : ℕ) → i < n → i ≤ 32
     few-index i h = let k : n ≤ 32 = few-declarations in omega arith
 
-    pub few-fields : (i : ℕ) → i < n → getD c i 0 ≤ 64
+    pub few-fields : (i : ℕ) → i < n → countHere c i ≤ 64
     unfolding tooMany
     few-fields i h =
-        ltb-false 64 (getD c i 0)
-        (sym (ap (ltb 64) (length-fields [] [] (i * 64) (getD c i 0)))
-        ∙ any-declarations-false long [] [] [] c n (split (ltb 32 (length (counted c n))) (any long (counted c n)) few .1) i h)
+        ltb-false 64 (countHere c i)
+        (sym (ap (ltb 64) (length-fields [] [] (i * 64) (countHere c i)))
+        ∙ any-declarations-false long c [] [] n (split (ltb 32 (length (bare c n))) (any long (bare c n)) few .1) i h)
 
 -- ---- 6
 
@@ -109,46 +109,48 @@ module _ (w : MaybeNumber) (m : Modifier) (n : MaybeNumber) {a : Bool} (ea : a �
     pub array-count : b ≡ false → {c : Bool} → c ≡ badMaybe badCount n → c ≡ badMaybe badWidth w || badModifier m || badMaybe badCount n
     array-count h ec = rw (sym ea ∙ ha, sym eb ∙ h) ec
 
-module _ (s fields : List ℕ) (j m k : ℕ) {e : Bool} (inv : any badField (fieldsFrom s fields (j + k) (m - k)) ≡ e) where
+module _ (values fields : List ℕ) (j m k : ℕ) {e : Bool} (inv : any badField (fieldsFrom values fields (j + k) (m - k)) ≡ e) where
   pub field-end : m ≤ k → false ≡ e
-  field-end h = any-fields-end badField s fields j m k inv h
+  field-end h = any-fields-end badField values fields j m k inv h
 
-  module _ (h : k < m) {at : ℕ} (ea : at ≡ getD fields (j + k) 0) {f : Field} (ef : f ≡ fieldHere s at) {b : Bool} (eb : b ≡ badNumber (f .desc)) where
-    tested : badField (fieldHere s (getD fields (j + k) 0)) ≡ b
-    tested = sym (eb ∙ ap badField (ef ∙ ap (fieldHere s) ea))
+  module _ (h : k < m) {at : ℕ} (ea : at ≡ getD fields (j + k) 0) {f : Field} (ef : f ≡ fieldHere values at) {b : Bool} (eb : b ≡ badNumber (f .desc)) where
+    tested : badField (fieldHere values (getD fields (j + k) 0)) ≡ b
+    tested = sym (eb ∙ ap badField (ef ∙ ap (fieldHere values) ea))
 
     pub field-found : b ≡ true → true ≡ e
-    field-found hb = any-fields-found badField s fields j m k inv h (tested ∙ hb)
+    field-found hb = any-fields-found badField values fields j m k inv h (tested ∙ hb)
 
-    pub field-turn : b ≡ false → any badField (fieldsFrom s fields (j + (k + 1)) (m - (k + 1))) ≡ e
-    field-turn hb = any-fields-turn badField s fields j m k inv h (tested ∙ hb)
+    pub field-turn : b ≡ false → any badField (fieldsFrom values fields (j + (k + 1)) (m - (k + 1))) ≡ e
+    field-turn hb = any-fields-turn badField values fields j m k inv h (tested ∙ hb)
 
-pub field-start : (s fields : List ℕ) (j m : ℕ) → any badField (fieldsFrom s fields (j + 0) (m - 0)) ≡ any badField (fieldsFrom s fields j m)
-field-start s fields j m = any-fields-start badField s fields j m
+pub field-start : (values fields : List ℕ) (j m : ℕ) → any badField (fieldsFrom values fields (j + 0) (m - 0)) ≡ any badField (fieldsFrom values fields j m)
+field-start values fields j m = any-fields-start badField values fields j m
 
-module _ (s p f c : List ℕ) (i : ℕ) {at : ℕ} (ea : at ≡ getD p i 0) {d : Decl} (ed : d ≡ declHere s at) {b : Bool} (eb : b ≡ badDecl (d .desc)) where
-  decl-tested : badDecl (declHere s (getD p i 0) .desc) ≡ b
-  decl-tested = sym (eb ∙ ap (λ (x : Decl). badDecl (x .desc)) (ed ∙ ap (declHere s) ea))
+module _ (rows values fields : List ℕ) (i : ℕ) {d : Decl} (ed : d ≡ declHere rows i) {b : Bool} (eb : b ≡ badDecl (d .desc)) where
+  decl-tested : badDecl (declHere rows i .desc) ≡ b
+  decl-tested = sym (eb ∙ ap (λ (x : Decl). badDecl (x .desc)) ed)
 
-  pub decl-bad : b ≡ true → true ≡ badNumbers (declarationIn s p f c i)
-  decl-bad h = sym (ap (λ (x : Bool). x || any badField (fieldsFrom s f (i * 64) (getD c i 0))) (decl-tested ∙ h))
+  pub decl-bad : b ≡ true → true ≡ badNumbers (declarationIn rows values fields i)
+  decl-bad h = sym (ap (λ (x : Bool). x || any badField (fieldsFrom values fields (i * 64) (countHere rows i))) (decl-tested ∙ h))
 
-  pub decl-fields : b ≡ false → {n : ℕ} → n ≡ getD c i 0 → {r : Bool} → r ≡ any badField (fieldsFrom s f (i * 64) n) → r ≡ badNumbers (declarationIn s p f c i)
+  pub decl-fields : b ≡ false → {n : ℕ} → n ≡ countHere rows i → {r : Bool} → r ≡ any badField (fieldsFrom values fields (i * 64) n)
+      → r ≡ badNumbers (declarationIn rows values fields i)
   decl-fields h {n} en er =
-      er ∙ ap (λ (m : ℕ). any badField (fieldsFrom s f (i * 64) m)) en
-      ∙ sym (ap (λ (x : Bool). x || any badField (fieldsFrom s f (i * 64) (getD c i 0))) (decl-tested ∙ h))
+      er ∙ ap (λ (m : ℕ). any badField (fieldsFrom values fields (i * 64) m)) en
+      ∙ sym (ap (λ (x : Bool). x || any badField (fieldsFrom values fields (i * 64) (countHere rows i))) (decl-tested ∙ h))
 
-pub range-start : (s p f c : List ℕ) (n : ℕ) → any badNumbers (declarationsFrom s p f c 0 (n - 0)) ≡ outOfRange (declarationsFrom s p f c 0 n)
+pub range-start : (rows values fields : List ℕ) (n : ℕ)
+    → any badNumbers (declarationsFrom rows values fields 0 (n - 0)) ≡ outOfRange (declarationsFrom rows values fields 0 n)
 unfolding outOfRange
-range-start s p f c n = rw sub-zero
+range-start rows values fields n = rw sub-zero
 
-module _ (s p f c : List ℕ) (n i : ℕ) {e : Bool} (inv : any badNumbers (declarationsFrom s p f c i (n - i)) ≡ e) where
+module _ (rows values fields : List ℕ) (n i : ℕ) {e : Bool} (inv : any badNumbers (declarationsFrom rows values fields i (n - i)) ≡ e) where
   pub range-end : n ≤ i → false ≡ e
-  range-end h = any-declarations-end badNumbers s p f c n i inv h
+  range-end h = any-declarations-end badNumbers rows values fields n i inv h
 
-  module _ (h : i < n) {b : Bool} (eb : b ≡ badNumbers (declarationIn s p f c i)) where
+  module _ (h : i < n) {b : Bool} (eb : b ≡ badNumbers (declarationIn rows values fields i)) where
     pub range-found : b ≡ true → true ≡ e
-    range-found hb = any-declarations-found badNumbers s p f c n i inv h (sym eb ∙ hb)
+    range-found hb = any-declarations-found badNumbers rows values fields n i inv h (sym eb ∙ hb)
 
-    pub range-turn : b ≡ false → any badNumbers (declarationsFrom s p f c (i + 1) (n - (i + 1))) ≡ e
-    range-turn hb = any-declarations-turn badNumbers s p f c n i inv h (sym eb ∙ hb)
+    pub range-turn : b ≡ false → any badNumbers (declarationsFrom rows values fields (i + 1) (n - (i + 1))) ≡ e
+    range-turn hb = any-declarations-turn badNumbers rows values fields n i inv h (sym eb ∙ hb)

@@ -1,4 +1,4 @@
--- What refusals 3 and 6 test of the tables of places.
+-- What refusals 3 and 6 test of the tables of a record.
 -- Assumes nothing.
 use mathlib.Core.Bool.{Bool, _||_}
 use mathlib.Core.List.{List, []}
@@ -6,12 +6,12 @@ use Prim.Native.Nat.{ℕ}
 use Rattle.definitions.specs.Bytes.{any}
 use Rattle.definitions.specs.Record.{Declaration}
 use Rattle.definitions.specs.Refusals.{badNumber, badDecl}
-use Rattle.definitions.specs.Tables.{declarationsFrom}
+use Rattle.tables.specs.Tables.{declarationsFrom}
 use Rattle.definitions.specs.declared.Field.{Field}
 
--- n declarations of which only the numbers of their fields are known: those are all that 3 tests
-abbrev pub counted : List ℕ → ℕ → List Declaration
-counted counts n = declarationsFrom [] [] [] counts 0 n
+-- n declarations without the values of their fields, for tests of how many fields they have (3), of their names (4) and of their kinds (5)
+abbrev pub bare : List ℕ → ℕ → List Declaration
+bare rows n = declarationsFrom rows [] [] 0 n
 
 -- the tests of `outOfRange`, of a field and of a declaration
 abbrev pub badField : Field → Bool

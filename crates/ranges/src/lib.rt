@@ -1,4 +1,4 @@
-// Refusals 3 and 6 over the tables of places (document 01, 'The answer'): too many declarations or fields, and a width, count, padding or mod
+// Refusals 3 and 6 over the tables of a record (document 01, 'The answer'): too many declarations or fields, and a width, count, padding or mod
 // number outside its range.
 
 use definitions::DeclDesc;
@@ -8,24 +8,23 @@ use definitions::Modifier;
 ghost use mathlib.Core.Path.{_≡_};
 ghost use mathlib.Core.Bool.{false, _||_};
 ghost use Prim.Native.Nat.{_+_, _≤_};
-ghost use lib.ListN.{getD};
 ghost use Rattle.definitions.specs.Bytes.{any};
 ghost use Rattle.definitions.specs.Refusals.{tooMany, outside, badWidth, badCount, badMaybe, badModifier, badNumber, badDecl, outOfRange};
-ghost use Rattle.definitions.specs.Tables.{fieldsFrom, declarationIn, declarationsFrom};
-ghost use Rattle.ranges.specs.Ranges.{counted, badField, badNumbers};
+ghost use Rattle.tables.specs.Tables.{fieldsFrom, countHere, declarationIn, declarationsFrom};
+ghost use Rattle.ranges.specs.Ranges.{bare, badField, badNumbers};
 
 // ---- 3: more than 32 declarations, or one with more than 64 fields
 
 // More than 32 declarations, or one with more than 64 fields.
-pub fn too_many(counts: &[usize], n: usize) -> bool
-    ensures { λ r. ⌜ r ≡ tooMany (counted (now (counts .entry)) n) ⌝ }
+pub fn too_many(rows: &[u64], n: usize) -> bool
+    ensures { λ r. ⌜ r ≡ tooMany (bare (now (rows .entry)) n) ⌝ }
 {
     if 32 < n {
         return true;
     }
     let mut i = 0;
     while i < n {
-        let m = places::get(counts, i);
+        let m = tables::count_here(rows, i);
         if 64 < m {
             return true;
         }
@@ -129,14 +128,14 @@ fn bad_decl(desc: DeclDesc) -> bool
 }
 
 // A number of n fields, whose places the table has from `base` on.
-fn bad_fields(rec: &[u8], fields: &[usize], base: usize, n: usize) -> bool
+fn bad_fields(values: &[u64], fields: &[usize], base: usize, n: usize) -> bool
     requires { ⌜ base + n ≤ 4096 ⌝ }
-    ensures { λ r. ⌜ r ≡ any badField (fieldsFrom (now (rec .entry)) (now (fields .entry)) base n) ⌝ }
+    ensures { λ r. ⌜ r ≡ any badField (fieldsFrom (now (values .entry)) (now (fields .entry)) base n) ⌝ }
 {
     let mut k = 0;
     while k < n {
-        let at = places::get(fields, base + k);
-        let f = places::field_here(rec, at);
+        let at = tables::get(fields, base + k);
+        let f = tables::field_here(values, at);
         let desc = f.desc;
         if bad_number(desc) {
             return true;
@@ -147,35 +146,28 @@ fn bad_fields(rec: &[u8], fields: &[usize], base: usize, n: usize) -> bool
 }
 
 // A number of the declaration with the index i, or of its fields.
-fn bad_numbers(rec: &[u8], places: &[usize], fields: &[usize], counts: &[usize], i: usize) -> bool
+fn bad_numbers(rows: &[u64], values: &[u64], fields: &[usize], i: usize) -> bool
     requires { ⌜ i ≤ 32 ⌝ }
-    requires { ⌜ getD (now counts) i 0 ≤ 64 ⌝ }
-    ensures { λ r. ⌜ r ≡ badNumbers (declarationIn (now (rec .entry)) (now (places .entry)) (now (fields .entry)) (now (counts .entry)) i) ⌝ }
+    requires { ⌜ countHere (now rows) i ≤ 64 ⌝ }
+    ensures { λ r. ⌜ r ≡ badNumbers (declarationIn (now (rows .entry)) (now (values .entry)) (now (fields .entry)) i) ⌝ }
 {
-    let at = places::get(places, i);
-    let d = places::decl_here(rec, at);
+    let d = tables::decl_here(rows, i);
     let desc = d.desc;
     if bad_decl(desc) {
         return true;
     }
-    let n = places::get(counts, i);
-    bad_fields(rec, fields, i * 64, n)
+    let n = tables::count_here(rows, i);
+    bad_fields(values, fields, i * 64, n)
 }
 
 // A number of the first n declarations, where 3 is not met.
-pub fn out_of_range(
-    rec: &[u8],
-    places: &[usize],
-    fields: &[usize],
-    counts: &[usize],
-    n: usize,
-) -> bool
-    requires { ⌜ tooMany (counted (now counts) n) ≡ false ⌝ }
-    ensures { λ r. ⌜ r ≡ outOfRange (declarationsFrom (now (rec .entry)) (now (places .entry)) (now (fields .entry)) (now (counts .entry)) 0 n) ⌝ }
+pub fn out_of_range(rows: &[u64], values: &[u64], fields: &[usize], n: usize) -> bool
+    requires { ⌜ tooMany (bare (now rows) n) ≡ false ⌝ }
+    ensures { λ r. ⌜ r ≡ outOfRange (declarationsFrom (now (rows .entry)) (now (values .entry)) (now (fields .entry)) 0 n) ⌝ }
 {
     let mut i = 0;
     while i < n {
-        if bad_numbers(rec, places, fields, counts, i) {
+        if bad_numbers(rows, values, fields, i) {
             return true;
         }
         i += 1;

@@ -1,82 +1,89 @@
--- What the reader answers by tables of 32 declarations and 2,048 fields is what the record says (`readingIn` and `reading`), and the tables of a
+-- What the reader answers by tables that have room for the record is what the record says (`readingIn` and `reading`), and the tables of a
 -- record that passes give its declarations back.
 -- Assumes nothing.
-use Prim.Native.Nat.{ℕ, _+_, _*_, _-_, _≤_}
+use Prim.Native.Nat.{ℕ, _+_, _*_, _/_, _≤_}
 use mathlib.Core.Bool.{Bool, true, false, _||_}
 use mathlib.Core.List.{List, [], _∷_}
 use mathlib.Core.Path.{_≡_, refl, sym, ap, _∙_}
 use native.Mathlib.Nat.{zero-add}
 use native.Mathlib.Omega.{arith}
 use borrow.Author.Tests.{ltb-false}
-use lib.Dec.{ltb}
-use lib.ListN.{length, getD}
+use lib.Dec.{ltb, eqb}
+use lib.ListN.{length}
 use Rattle.definitions.specs.Bytes.{Text, any}
 use Rattle.definitions.specs.Record.{Declaration, Declarations, declarationsAre, noDeclarations, onHead, headAt, declarationsAt, withHead, readRecord, noRecord}
 use Rattle.definitions.specs.Refusals.{tooMany}
-use Rattle.definitions.specs.Tables.{declarationsFrom}
+use Rattle.tables.specs.Tables.{Tables, declarationsFrom, countHere}
 use Rattle.definitions.specs.Answer.{wrongLength}
 use Rattle.definitions.specs.declared.Head.{Head}
 use Rattle.definitions.specs.declared.HeadRead.{HeadRead}
 use Rattle.definitions.specs.declared.Refusal.{Refusal}
-use Rattle.places.specs.Places.{Tables, given, tablesFrom, howMany}
+use Rattle.places.specs.Places.{given, tablesFrom, howMany}
 use Rattle.places.proofs.Give.{Counted, Short, counts-give, tables-give}
-use Rattle.places.proofs.Walks.{length-declarations, length-fields}
+use Rattle.tables.proofs.Walks.{length-declarations, length-fields}
 use Rattle.ranges.proofs.Tests.{long}
-use Rattle.record.specs.Reader.{readVerdict, readingOf, readingRead, reading, readingCounted, readingIn, tablesAfter, InTables, OfRecord}
+use Rattle.record.specs.Reader.{readVerdict, readingOf, readingRead, reading, readingCounted, readingIn, tablesAfter, valuesRoom, InTables, OfRecord}
 use Rattle.record.specs.declared.Reading.{Reading}
 
--- the lengths of document 01
-pub record Whole (t : Tables) : Type 0 where
-  pub declarations : length (t .places) ≡ 32
+-- the lengths of document 01, and room for the values of the record's fields
+pub record Whole (s : Text) (t : Tables) : Type 0 where
+  pub declarations : length (t .rows) ≡ 352
+  pub values : valuesRoom s ≤ length (t .values)
   pub fields : length (t .fields) ≡ 2048
-  pub counts : length (t .counts) ≡ 32
 
--- ---- refusal 3
+-- ---- refusals 1 and 3
 
 either : (a b : Bool) → a || b ≡ false → (a ≡ false) × (b ≡ false)
 either false false e = (refl, refl)
 either false true e = (refl, e)
 either true b e = absurd (let z : _≡_ {A = ℕ} 0 1 = cc in omega arith)
 
--- where it is not met, no declaration has more than 64 fields
+-- where 1 is not met, the room is that of the whole record
+room-inside : (s : Text) (v : List ℕ) → wrongLength s ≡ false → valuesRoom s ≤ length v → length s / 16 * 17 ≤ length v
+room-inside s v right h =
+    let k : length s ≤ 16384 = ltb-false 16384 (length s) (either (eqb (length s) 0) (ltb 16384 (length s)) right .1) in omega arith
+
+-- where 3 is not met, no declaration has more than 64 fields
 all-short : (ds : List Declaration) → any long ds ≡ false → Short ds
 all-short [] e = Short.done
 all-short (d ∷ ds) e =
     let k : (long d ≡ false) × (any long ds ≡ false) = either (long d) (any long ds) e in Short.more (ltb-false 64 (length (d .fields)) (k .0)) (all-short ds (k .1))
 
-long-given : (s x y z : List ℕ) (i : ℕ) (ds : List Declaration) → Counted z i ds → any long (declarationsFrom s x y z i (length ds)) ≡ any long ds
+long-given : (x y z : List ℕ) (i : ℕ) (ds : List Declaration) → Counted x i ds → any long (declarationsFrom x y z i (length ds)) ≡ any long ds
 unfolding declarationsFrom
-long-given s x y z i [] Counted.done = refl
-long-given s x y z i (d ∷ ds) (Counted.more e k) = rw (length-fields s y (i * 64) (getD z i 0), e, long-given s x y z (i + 1) ds k)
+long-given x y z i [] Counted.done = refl
+long-given x y z i (d ∷ ds) (Counted.more e k) = rw (length-fields y z (i * 64) (countHere x i), e, long-given x y z (i + 1) ds k)
 
 -- ---- the tables of a record
 
 abbrev pub filled : Text → ℕ → Tables → Tables
 filled s at t = tablesFrom s (length s) 0 at t
 
-module _ (s : Text) (at : ℕ) (t : Tables) (w : Whole t) (ds : List Declaration) (e : declarationsAt s (length s) at ≡ declarationsAre ds) where
-  many-given : tooMany (given s (filled s at t) (length ds)) ≡ tooMany ds
+module _ (s : Text) (at : ℕ) (t : Tables) (w : Whole s t) (right : wrongLength s ≡ false) (ds : List Declaration)
+    (e : declarationsAt s (length s) at ≡ declarationsAre ds) where
+  many-given : tooMany (given (filled s at t) (length ds)) ≡ tooMany ds
   unfolding tooMany
-  many-given = rw (length-declarations s (filled s at t .places) (filled s at t .fields) (filled s at t .counts) 0 (length ds)) (by (ltb 32 (length ds)) refl)
+  many-given = rw (length-declarations (filled s at t .rows) (filled s at t .values) (filled s at t .fields) 0 (length ds)) (by (ltb 32 (length ds)) refl)
     where
-      by : (b : Bool) → ltb 32 (length ds) ≡ b → (b || any long (given s (filled s at t) (length ds))) ≡ (b || any long ds)
+      by : (b : Bool) → ltb 32 (length ds) ≡ b → (b || any long (given (filled s at t) (length ds))) ≡ (b || any long ds)
       by true h = refl
       by false h =
-          long-given s (filled s at t .places) (filled s at t .fields) (filled s at t .counts) 0 ds
-          (counts-give s (length s) at t ds e (let k : length ds ≤ 32 = ltb-false 32 (length ds) h in omega (arith, w .counts)))
+          long-given (filled s at t .rows) (filled s at t .values) (filled s at t .fields) 0 ds
+          (counts-give s (length s) at t ds e (let k : length ds ≤ 32 = ltb-false 32 (length ds) h in omega (arith, w .declarations)))
 
-  pub few-given : tooMany ds ≡ false → given s (filled s at t) (length ds) ≡ ds
+  pub few-given : tooMany ds ≡ false → given (filled s at t) (length ds) ≡ ds
   unfolding tooMany
   few-given h =
       let k : (ltb 32 (length ds) ≡ false) × (any long ds ≡ false) = either (ltb 32 (length ds)) (any long ds) h in
       let few : length ds ≤ 32 = ltb-false 32 (length ds) (k .0) in
-      tables-give s (length s) at t ds e (all-short ds (k .1)) (omega (arith, w .declarations)) (omega (arith, w .counts)) (omega (arith, w .fields))
+      tables-give s (length s) at t ds e (all-short ds (k .1)) (omega (arith, w .declarations))
+      (room-inside s (t .values) right (w .values)) (omega (arith, w .fields))
 
-  verdict-given : readVerdict s (given s (filled s at t) (length ds)) ≡ readVerdict s ds
+  verdict-given : readVerdict s (given (filled s at t) (length ds)) ≡ readVerdict s ds
   unfolding readVerdict
   verdict-given = by (tooMany ds) refl
     where
-      by : (b : Bool) → tooMany ds ≡ b → readVerdict s (given s (filled s at t) (length ds)) ≡ readVerdict s ds
+      by : (b : Bool) → tooMany ds ≡ b → readVerdict s (given (filled s at t) (length ds)) ≡ readVerdict s ds
       by true h = rw (many-given ∙ h, h)
       by false h = ap (readVerdict s) (few-given h)
 
@@ -107,30 +114,30 @@ pub reading-right : (s : Text) → wrongLength s ≡ false → reading s ≡ rea
 unfolding reading
 reading-right s e = rw (e, reading)
 
-pub reading-agrees : (s : Text) (t : Tables) → Whole t → readingIn s (tablesAfter s t) ≡ reading s
+pub reading-agrees : (s : Text) (t : Tables) → Whole s t → readingIn s (tablesAfter s t) ≡ reading s
 unfolding readRecord
 reading-agrees s t w = by (wrongLength s) refl
   where
-    on-declarations : (h : Head) (p : ℕ) (r : Declarations) → declarationsAt s (length s) p ≡ r
+    on-declarations : wrongLength s ≡ false → (h : Head) (p : ℕ) (r : Declarations) → declarationsAt s (length s) p ≡ r
         → readingCounted s h (filled s p t) (howMany 0 r) ≡ readingRead s (withHead h r)
-    on-declarations h p (declarationsAre ds) e =
-        ap (λ (n : ℕ). readingOf h n (readVerdict s (given s (filled s p t) n))) (zero-add (length ds))
-        ∙ ap (readingOf h (length ds)) (verdict-given s p t w ds e)
-    on-declarations h p noDeclarations e = refl
+    on-declarations right h p (declarationsAre ds) e =
+        ap (λ (n : ℕ). readingOf h n (readVerdict s (given (filled s p t) n))) (zero-add (length ds))
+        ∙ ap (readingOf h (length ds)) (verdict-given s p t w right ds e)
+    on-declarations right h p noDeclarations e = refl
 
-    on-head : (g : HeadRead)
+    on-head : wrongLength s ≡ false → (g : HeadRead)
         → onHead g (Reading.Refuse Refusal.RecordForm) (λ h p. readingCounted s h (afterHead s t g) (howMany 0 (declarationsAt s (length s) p)))
         ≡ readingRead s (onHead g noRecord λ h p. withHead h (declarationsAt s (length s) p))
-    on-head (HeadRead.Is h p) = on-declarations h p (declarationsAt s (length s) p) refl
-    on-head HeadRead.Wrong = refl
+    on-head right (HeadRead.Is h p) = on-declarations right h p (declarationsAt s (length s) p) refl
+    on-head right HeadRead.Wrong = refl
 
     by : (b : Bool) → wrongLength s ≡ b → readingIn s (tablesAfter s t) ≡ reading s
     by true e = in-wrong s (tablesAfter s t) e ∙ sym (reading-wrong s e)
     by false e =
         in-right s (tablesAfter s t) e
         ∙ ap (λ (x : Tables). onHead (headAt s 0) (Reading.Refuse Refusal.RecordForm) λ h p. readingCounted s h x (howMany 0 (declarationsAt s (length s) p))) (after-right s t e)
-        ∙ on-head (headAt s 0)
+        ∙ on-head e (headAt s 0)
         ∙ sym (reading-right s e)
 
-pub of-record : {s : Text} {t u : Tables} {r : Reading} → Whole t → InTables s t r u → OfRecord s t r u
+pub of-record : {s : Text} {t u : Tables} {r : Reading} → Whole s t → InTables s t r u → OfRecord s t r u
 of-record {s} {t} w i = record { answer = i .answer ∙ ap (readingIn s) (i .tables) ∙ reading-agrees s t w; tables = i .tables }

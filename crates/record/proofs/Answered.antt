@@ -6,7 +6,7 @@ use mathlib.Core.Bool.{Bool, true, false}
 use mathlib.Core.List.{List}
 use mathlib.Core.Path.{_≡_, refl, sym, ap, _∙_, subst}
 use native.Mathlib.Omega.{arith}
-use lib.ListN.{length, getD}
+use lib.ListN.{length}
 use Rattle.definitions.specs.Bytes.{Text}
 use Rattle.definitions.specs.Record.{Declaration, Declarations, declarationsAre, noDeclarations, RecordRead, recordIs, noRecord, onHead, headAt, declarationsAt, withHead, readRecord}
 use Rattle.definitions.specs.Sizes.{Schema, newSchema}
@@ -17,12 +17,13 @@ use Rattle.definitions.specs.declared.Head.{Head}
 use Rattle.definitions.specs.declared.HeadRead.{HeadRead}
 use Rattle.definitions.specs.declared.Refusal.{Refusal}
 use Rattle.definitions.specs.declared.Verdict.{Verdict}
-use Rattle.places.specs.Places.{Tables, given}
-use Rattle.ranges.specs.Ranges.{counted}
+use Rattle.tables.specs.Tables.{Tables, countHere}
+use Rattle.places.specs.Places.{given}
+use Rattle.ranges.specs.Ranges.{bare}
 use Rattle.ranges.proofs.Tests.{few-declarations, few-fields}
 use Rattle.record.specs.Reader.{readVerdict, readingOf, readingRead, reading, tablesAfter}
 use Rattle.record.specs.declared.Reading.{Reading}
-use Rattle.record.proofs.Verdicts.{many-counted}
+use Rattle.record.proofs.Verdicts.{many-bare}
 use Rattle.record.proofs.Agree.{Whole, few-given, reading-wrong, reading-right, after-right, afterHead, filled}
 
 -- ---- 3 to 6, then 7 to 9
@@ -90,10 +91,10 @@ answer-refused s why e = by (wrongLength s) refl
 
 pub record Passed (s : Text) (h : Head) (n : ℕ) (t : Tables) : Type 0 where
   pub right-length : wrongLength s ≡ false
-  pub read : readRecord s ≡ recordIs h (given s t n)
-  pub passed : readVerdict s (given s t n) ≡ Verdict.Pass
+  pub read : readRecord s ≡ recordIs h (given t n)
+  pub passed : readVerdict s (given t n) ≡ Verdict.Pass
   pub few : n ≤ 32
-  pub short : (i : ℕ) → i < n → getD (t .counts) i 0 ≤ 64
+  pub short : (i : ℕ) → i < n → countHere (t .rows) i ≤ 64
 
 -- 3 is not met
 none-many : (s : Text) (ds : List Declaration) → readVerdict s ds ≡ Verdict.Pass → tooMany ds ≡ false
@@ -104,7 +105,7 @@ none-many s ds e = by (tooMany ds) refl
     by true h = absurd (let k : Verdict.Refuse Refusal.TooMany ≡ Verdict.Pass = rw h at e in let z : _≡_ {A = ℕ} 0 1 = cc in omega arith)
     by false h = refl
 
-module _ (s : Text) (t : Tables) (w : Whole t) (right : wrongLength s ≡ false) where
+module _ (s : Text) (t : Tables) (w : Whole s t) (right : wrongLength s ≡ false) where
   passed-with : (h : Head) (p : ℕ) (ds : List Declaration) → headAt s 0 ≡ HeadRead.Is h p → declarationsAt s (length s) p ≡ declarationsAre ds
       → readVerdict s ds ≡ Verdict.Pass → Passed s h (length ds) (tablesAfter s t)
   unfolding readRecord
@@ -112,22 +113,22 @@ module _ (s : Text) (t : Tables) (w : Whole t) (right : wrongLength s ≡ false)
     right-length = right;
     read = rw (eh, ed) (ap (recordIs h) (sym back));
     passed = ap (readVerdict s) back ∙ ev;
-    few = few-declarations (tablesAfter s t .counts) (length ds) fewer;
-    short = few-fields (tablesAfter s t .counts) (length ds) fewer;
+    few = few-declarations (tablesAfter s t .rows) (length ds) fewer;
+    short = few-fields (tablesAfter s t .rows) (length ds) fewer;
   }
     where
       after : tablesAfter s t ≡ filled s p t
       after = after-right s t right ∙ ap (afterHead s t) eh
 
-      back : given s (tablesAfter s t) (length ds) ≡ ds
-      back = ap (λ (x : Tables). given s x (length ds)) after ∙ few-given s p t w ds ed (none-many s ds ev)
+      back : given (tablesAfter s t) (length ds) ≡ ds
+      back = ap (λ (x : Tables). given x (length ds)) after ∙ few-given s p t w right ds ed (none-many s ds ev)
 
-      fewer : tooMany (counted (tablesAfter s t .counts) (length ds)) ≡ false
+      fewer : tooMany (bare (tablesAfter s t .rows) (length ds)) ≡ false
       fewer =
-          sym (many-counted s (tablesAfter s t .places) (tablesAfter s t .fields) (tablesAfter s t .counts) (length ds))
+          sym (many-bare (tablesAfter s t .rows) (tablesAfter s t .values) (tablesAfter s t .fields) (length ds))
           ∙ ap tooMany back ∙ none-many s ds ev
 
-pub reading-passed : (s : Text) (t : Tables) → Whole t → (h : Head) (n : ℕ) → reading s ≡ Reading.Pass h n → Passed s h n (tablesAfter s t)
+pub reading-passed : (s : Text) (t : Tables) → Whole s t → (h : Head) (n : ℕ) → reading s ≡ Reading.Pass h n → Passed s h n (tablesAfter s t)
 unfolding readRecord
 reading-passed s t w h n e = by (wrongLength s) refl
   where
@@ -156,9 +157,9 @@ reading-passed s t w h n e = by (wrongLength s) refl
 
 -- ---- and what is left to do of it
 
-pub answer-passed : {s : Text} {h : Head} {n : ℕ} {t : Tables} → Passed s h n t → answer s ≡ lowerRecord s h (given s t n) (newSchema s (given s t n))
+pub answer-passed : {s : Text} {h : Head} {n : ℕ} {t : Tables} → Passed s h n t → answer s ≡ lowerRecord s h (given t n) (newSchema s (given t n))
 unfolding answer
 answer-passed {s} p = rw (answer, p .right-length) (ap (answerRead s) (p .read))
 
-pub verdict-passed : {s : Text} {h : Head} {n : ℕ} {t : Tables} → Passed s h n t → (schema : Schema) → verdict s h (given s t n) schema ≡ laterVerdict s h schema
-verdict-passed {s} {h} {n} {t} p schema = verdict-parts s h (given s t n) schema ∙ ap (λ (v : Verdict). onVerdict v (laterVerdict s h schema)) (p .passed)
+pub verdict-passed : {s : Text} {h : Head} {n : ℕ} {t : Tables} → Passed s h n t → (schema : Schema) → verdict s h (given t n) schema ≡ laterVerdict s h schema
+verdict-passed {s} {h} {n} {t} p schema = verdict-parts s h (given t n) schema ∙ ap (λ (v : Verdict). onVerdict v (laterVerdict s h schema)) (p .passed)

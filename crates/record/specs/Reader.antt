@@ -3,7 +3,7 @@
 use mathlib.Core.Bool.{true, false}
 use mathlib.Core.List.{List}
 use mathlib.Core.Path.{_≡_}
-use Prim.Native.Nat.{ℕ}
+use Prim.Native.Nat.{ℕ, _*_, _/_, min}
 use lib.ListN.{length}
 use Rattle.definitions.specs.Bytes.{Text}
 use Rattle.definitions.specs.Record.{Declaration, RecordRead, recordIs, noRecord, onHead, headAt, declarationsAt, readRecord}
@@ -12,7 +12,8 @@ use Rattle.definitions.specs.Answer.{wrongLength}
 use Rattle.definitions.specs.declared.Head.{Head}
 use Rattle.definitions.specs.declared.Refusal.{Refusal}
 use Rattle.definitions.specs.declared.Verdict.{Verdict}
-use Rattle.places.specs.Places.{Tables, given, tablesFrom, howMany}
+use Rattle.tables.specs.Tables.{Tables}
+use Rattle.places.specs.Places.{given, tablesFrom, howMany}
 use Rattle.places.specs.declared.DeclsRead.{DeclsRead}
 use Rattle.record.specs.declared.Reading.{Reading}
 
@@ -40,7 +41,11 @@ reading s = elim (wrongLength s) [ true ↦ Reading.Refuse Refusal.RecordLength 
 unfoldable pub tablesAfter : Text → Tables → Tables
 tablesAfter s t = elim (wrongLength s) [ true ↦ t | false ↦ onHead (headAt s 0) t λ h p. tablesFrom s (length s) 0 p t ]
 
--- the answer and the tables, for tables of 32 declarations and 2,048 fields
+-- the numbers that a record's fields take: none of one that is too long, which is not read
+abbrev pub valuesRoom : Text → ℕ
+valuesRoom s = min (length s) 16384 / 16 * 17
+
+-- the answer and the tables, for tables of 32 declarations, 2,048 fields and the record's values
 pub record OfRecord (s : Text) (t : Tables) (r : Reading) (u : Tables) : Type 0 where
   pub answer : r ≡ reading s
   pub tables : u ≡ tablesAfter s t
@@ -49,7 +54,7 @@ pub record OfRecord (s : Text) (t : Tables) (r : Reading) (u : Tables) : Type 0 
 
 abbrev pub readingCounted : Text → Head → Tables → DeclsRead → Reading
 readingCounted s h t DeclsRead.Wrong = Reading.Refuse Refusal.RecordForm
-readingCounted s h t (DeclsRead.Is n) = readingOf h n (readVerdict s (given s t n))
+readingCounted s h t (DeclsRead.Is n) = readingOf h n (readVerdict s (given t n))
 
 unfoldable pub readingIn : Text → Tables → Reading
 readingIn s t = elim (wrongLength s) [

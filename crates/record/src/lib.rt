@@ -1,5 +1,5 @@
 // The record reader (document 01, module 2): refusals 1 to 6, each over the whole record before the next, or the head, the number of declarations and
-// the tables of their places.
+// the tables of what was read.
 
 use definitions::Head;
 use definitions::HeadRead;
@@ -7,9 +7,10 @@ use definitions::Refusal;
 use definitions::Verdict;
 use places::DeclsRead;
 ghost use mathlib.Core.Path.{_≡_};
-ghost use Rattle.definitions.specs.Tables.{declarationsFrom};
-ghost use Rattle.places.specs.Places.{tablesOf};
-ghost use Rattle.record.specs.Reader.{readVerdict, readingOf, InTables, OfRecord};
+ghost use Prim.Native.Nat.{_≤_};
+ghost use lib.ListN.{length};
+ghost use Rattle.tables.specs.Tables.{declarationsFrom, tablesOf};
+ghost use Rattle.record.specs.Reader.{readVerdict, readingOf, valuesRoom, InTables, OfRecord};
 
 // What the reader answers: the head and the number of declarations, or a refusal.
 pub enum Reading {
@@ -18,25 +19,19 @@ pub enum Reading {
 }
 
 // Refusals 3 to 6 of what the tables give, each over the whole record before the next.
-fn read_verdict(
-    rec: &[u8],
-    places: &[usize],
-    fields: &[usize],
-    counts: &[usize],
-    n: usize,
-) -> Verdict
-    ensures { λ r. ⌜ r ≡ readVerdict (now (rec .entry)) (declarationsFrom (now (rec .entry)) (now (places .entry)) (now (fields .entry)) (now (counts .entry)) 0 n) ⌝ }
+fn read_verdict(rec: &[u8], rows: &[u64], values: &[u64], fields: &[usize], n: usize) -> Verdict
+    ensures { λ r. ⌜ r ≡ readVerdict (now (rec .entry)) (declarationsFrom (now (rows .entry)) (now (values .entry)) (now (fields .entry)) 0 n) ⌝ }
 {
-    if ranges::too_many(counts, n) {
+    if ranges::too_many(rows, n) {
         return Verdict::Refuse(Refusal::TooMany);
     }
-    if scope::duplicate_name(rec, places, n) {
+    if scope::duplicate_name(rec, rows, n) {
         return Verdict::Refuse(Refusal::DuplicateName);
     }
-    if scope::unknown_name(rec, places, fields, counts, n) {
+    if scope::unknown_name(rec, rows, values, fields, n) {
         return Verdict::Refuse(Refusal::UnknownName);
     }
-    if ranges::out_of_range(rec, places, fields, counts, n) {
+    if ranges::out_of_range(rows, values, fields, n) {
         return Verdict::Refuse(Refusal::OutOfRange);
     }
     Verdict::Pass
@@ -45,28 +40,26 @@ fn read_verdict(
 // The answer for a record of the right form.
 fn judge(
     rec: &[u8],
-    places: &[usize],
+    rows: &[u64],
+    values: &[u64],
     fields: &[usize],
-    counts: &[usize],
     head: Head,
     n: usize,
 ) -> Reading
-    ensures { λ r. ⌜ r ≡ readingOf head n (readVerdict (now (rec .entry)) (declarationsFrom (now (rec .entry)) (now (places .entry)) (now (fields .entry)) (now (counts .entry)) 0 n)) ⌝ }
+    ensures { λ r. ⌜ r ≡ readingOf head n
+        (readVerdict (now (rec .entry)) (declarationsFrom (now (rows .entry)) (now (values .entry)) (now (fields .entry)) 0 n)) ⌝ }
 {
-    match read_verdict(rec, places, fields, counts, n) {
+    match read_verdict(rec, rows, values, fields, n) {
         Verdict::Pass => Reading::Pass(head, n),
         Verdict::Refuse(why) => Reading::Refuse(why),
     }
 }
 
 // The reader over tables of any length.
-fn read_tables(
-    rec: &[u8],
-    places: &mut [usize],
-    fields: &mut [usize],
-    counts: &mut [usize],
-) -> Reading
-    ensures { λ r. ⌜ InTables (now (rec .entry)) (tablesOf (now (places .entry)) (now (fields .entry)) (now (counts .entry))) r (tablesOf (now (places .exit)) (now (fields .exit)) (now (counts .exit))) ⌝ }
+fn read_tables(rec: &[u8], rows: &mut [u64], values: &mut [u64], fields: &mut [usize]) -> Reading
+    ensures { λ r. ⌜ InTables (now (rec .entry))
+        (tablesOf (now (rec .entry)) (now (rows .entry)) (now (values .entry)) (now (fields .entry))) r
+        (tablesOf (now (rec .entry)) (now (rows .exit)) (now (values .exit)) (now (fields .exit))) ⌝ }
 {
     let n = rec.len();
     if n == 0 {
@@ -78,20 +71,23 @@ fn read_tables(
     let HeadRead::Is(head, p) = readers::head_at(rec, 0) else {
         return Reading::Refuse(Refusal::RecordForm);
     };
-    let DeclsRead::Is(m) = places::fill(rec, p, places, fields, counts) else {
+    let DeclsRead::Is(m) = places::fill(rec, p, rows, values, fields) else {
         return Reading::Refuse(Refusal::RecordForm);
     };
-    judge(rec, places, fields, counts, head, m)
+    judge(rec, rows, values, fields, head, m)
 }
 
-// The reader, with tables of 32 declarations and 2,048 fields.
+// The reader, with tables of 32 declarations and 2,048 fields, and room for the values of the record's fields.
 pub fn read_record(
     rec: &[u8],
-    places: &mut [usize; 32],
+    rows: &mut [u64; 352],
+    values: &mut [u64],
     fields: &mut [usize; 2048],
-    counts: &mut [usize; 32],
 ) -> Reading
-    ensures { λ r. ⌜ OfRecord (now (rec .entry)) (tablesOf (now (places .entry)) (now (fields .entry)) (now (counts .entry))) r (tablesOf (now (places .exit)) (now (fields .exit)) (now (counts .exit))) ⌝ }
+    requires { ⌜ valuesRoom (now rec) ≤ length (now values) ⌝ }
+    ensures { λ r. ⌜ OfRecord (now (rec .entry))
+        (tablesOf (now (rec .entry)) (now (rows .entry)) (now (values .entry)) (now (fields .entry))) r
+        (tablesOf (now (rec .entry)) (now (rows .exit)) (now (values .exit)) (now (fields .exit))) ⌝ }
 {
-    read_tables(rec, places, fields, counts)
+    read_tables(rec, rows, values, fields)
 }

@@ -1,3 +1,3 @@
 pub mod Turns
 pub mod Cases
-pub mod KindLines
+pub mod KindNumbers

@@ -9,11 +9,11 @@ use native.Mathlib.Omega.{arith}
 use lib.ListN.{length, getD, List·getD-eq-default}
 use Rattle.definitions.specs.Bytes.{Text, pick}
 use Rattle.definitions.specs.Sizes.{sameName, reference, anyReference, countedBy, firstCount}
-use Rattle.definitions.specs.Tables.{fieldHere, fieldsFrom}
 use Rattle.definitions.specs.declared.ArraySize.{ArraySize}
 use Rattle.definitions.specs.declared.Field.{Field}
 use Rattle.definitions.specs.declared.Part.{Part}
 use Rattle.definitions.specs.declared.Reference.{Reference}
+use Rattle.tables.specs.Tables.{fieldHere, fieldsFrom}
 use Rattle.references.specs.Wanted.{wantedBy, isKnown}
 use Rattle.references.specs.declared.Wanted.{Wanted}
 
@@ -27,57 +27,61 @@ module _ (fields : List ℕ) (i k : ℕ) where
   pub place-behind : length fields ≤ k → 0 ≡ getD fields (i * 64 + k) 0
   place-behind h = sym (List·getD-eq-default fields 0 (omega arith))
 
-pub field-as : (s : Text) {at p : ℕ} {f : Field} → at ≡ p → f ≡ fieldHere s at → f ≡ fieldHere s p
-field-as s e h = h ∙ ap (fieldHere s) e
+module _ (values : List ℕ) {at p : ℕ} (e : at ≡ p) {f : Field} (h : f ≡ fieldHere values at) where
+  pub field-as : f ≡ fieldHere values p
+  field-as = h ∙ ap (fieldHere values) e
 
 -- ---- what is left of n fields from the k-th on
 
-module _ (s : Text) (fields : List ℕ) (j n : ℕ) where
-  pub fields-start : fieldsFrom s fields (j + 0) (n - 0) ≡ fieldsFrom s fields j n
-  fields-start = ap (λ (j : ℕ). fieldsFrom s fields j (n - 0)) (add-zero j) ∙ ap (fieldsFrom s fields j) (sub-zero n)
+module _ (values fields : List ℕ) (j n : ℕ) where
+  pub fields-start : fieldsFrom values fields (j + 0) (n - 0) ≡ fieldsFrom values fields j n
+  fields-start = ap (λ (j : ℕ). fieldsFrom values fields j (n - 0)) (add-zero j) ∙ ap (fieldsFrom values fields j) (sub-zero n)
 
-  pub fields-end : (k : ℕ) → n ≤ k → fieldsFrom s fields (j + k) (n - k) ≡ []
+  pub fields-end : (k : ℕ) → n ≤ k → fieldsFrom values fields (j + k) (n - k) ≡ []
   unfolding fieldsFrom
-  fields-end k h = ap (fieldsFrom s fields (j + k)) (let z : n - k ≡ 0 = omega arith in z)
+  fields-end k h = ap (fieldsFrom values fields (j + k)) (let z : n - k ≡ 0 = omega arith in z)
 
   pub fields-more : (k : ℕ) → k < n
-      → fieldsFrom s fields (j + k) (n - k) ≡ fieldHere s (getD fields (j + k) 0) ∷ fieldsFrom s fields (j + (k + 1)) (n - (k + 1))
+      → fieldsFrom values fields (j + k) (n - k) ≡ fieldHere values (getD fields (j + k) 0) ∷ fieldsFrom values fields (j + (k + 1)) (n - (k + 1))
   unfolding fieldsFrom
   fields-more k h =
-      ap (fieldsFrom s fields (j + k)) (let z : n - k ≡ suc (n - (k + 1)) = omega arith in z)
-      ∙ ap (λ (i : ℕ). fieldHere s (getD fields (j + k) 0) ∷ fieldsFrom s fields i (n - (k + 1))) (let z : j + k + 1 ≡ j + (k + 1) = omega arith in z)
+      ap (fieldsFrom values fields (j + k)) (let z : n - k ≡ suc (n - (k + 1)) = omega arith in z)
+      ∙ ap (λ (i : ℕ). fieldHere values (getD fields (j + k) 0) ∷ fieldsFrom values fields i (n - (k + 1))) (let z : j + k + 1 ≡ j + (k + 1) = omega arith in z)
 
 -- ---- some field is wanted
 
-module _ (s : Text) (wanted : Wanted) (fields : List ℕ) (j n : ℕ) where
-  pub any-start : anyReference (wantedBy s wanted) (fieldsFrom s fields (j + 0) (n - 0)) ≡ anyReference (wantedBy s wanted) (fieldsFrom s fields j n)
-  any-start = ap (anyReference (wantedBy s wanted)) (fields-start s fields j n)
+module _ (s : Text) (wanted : Wanted) (values fields : List ℕ) (j n : ℕ) where
+  pub any-start : anyReference (wantedBy s wanted) (fieldsFrom values fields (j + 0) (n - 0)) ≡ anyReference (wantedBy s wanted) (fieldsFrom values fields j n)
+  any-start = ap (anyReference (wantedBy s wanted)) (fields-start values fields j n)
 
-  module _ (k : ℕ) {e : Bool} (inv : anyReference (wantedBy s wanted) (fieldsFrom s fields (j + k) (n - k)) ≡ e) where
+  module _ (k : ℕ) {e : Bool} (inv : anyReference (wantedBy s wanted) (fieldsFrom values fields (j + k) (n - k)) ≡ e) where
     pub any-end : n ≤ k → false ≡ e
-    any-end h = ap (anyReference (wantedBy s wanted)) (sym (fields-end s fields j n k h)) ∙ inv
+    any-end h = ap (anyReference (wantedBy s wanted)) (sym (fields-end values fields j n k h)) ∙ inv
 
-    module _ (h : k < n) {by : Reference} (er : by ≡ reference (fieldHere s (getD fields (j + k) 0) .desc)) {b : Bool} (eb : b ≡ wantedBy s wanted by) where
-      split : (b || anyReference (wantedBy s wanted) (fieldsFrom s fields (j + (k + 1)) (n - (k + 1)))) ≡ e
+    module _ (h : k < n) {by : Reference} (er : by ≡ reference (fieldHere values (getD fields (j + k) 0) .desc))
+        {b : Bool} (eb : b ≡ wantedBy s wanted by) where
+      split : (b || anyReference (wantedBy s wanted) (fieldsFrom values fields (j + (k + 1)) (n - (k + 1)))) ≡ e
       split =
-          ap (λ (b : Bool). b || anyReference (wantedBy s wanted) (fieldsFrom s fields (j + (k + 1)) (n - (k + 1))))
+          ap (λ (b : Bool). b || anyReference (wantedBy s wanted) (fieldsFrom values fields (j + (k + 1)) (n - (k + 1))))
           (eb ∙ ap (wantedBy s wanted) er)
-          ∙ ap (anyReference (wantedBy s wanted)) (sym (fields-more s fields j n k h)) ∙ inv
+          ∙ ap (anyReference (wantedBy s wanted)) (sym (fields-more values fields j n k h)) ∙ inv
 
       pub any-found : b ≡ true → true ≡ e
-      any-found hb = ap (λ (b : Bool). b || anyReference (wantedBy s wanted) (fieldsFrom s fields (j + (k + 1)) (n - (k + 1)))) (sym hb) ∙ split
+      any-found hb = ap (λ (b : Bool). b || anyReference (wantedBy s wanted) (fieldsFrom values fields (j + (k + 1)) (n - (k + 1)))) (sym hb) ∙ split
 
-      pub any-turn : b ≡ false → anyReference (wantedBy s wanted) (fieldsFrom s fields (j + (k + 1)) (n - (k + 1))) ≡ e
-      any-turn hb = ap (λ (b : Bool). b || anyReference (wantedBy s wanted) (fieldsFrom s fields (j + (k + 1)) (n - (k + 1)))) (sym hb) ∙ split
+      pub any-turn : b ≡ false → anyReference (wantedBy s wanted) (fieldsFrom values fields (j + (k + 1)) (n - (k + 1))) ≡ e
+      any-turn hb = ap (λ (b : Bool). b || anyReference (wantedBy s wanted) (fieldsFrom values fields (j + (k + 1)) (n - (k + 1)))) (sym hb) ∙ split
 
 -- ---- the first size or count field of an array
 
-picked : (b : Bool) (x : ArraySize) {c : ArraySize} (other : ArraySize) → isKnown x ≡ true → c ≡ pick b x ArraySize.Unknown → isKnown c ≡ true → c ≡ pick b x other
+picked : (b : Bool) (x : ArraySize) {c : ArraySize} (other : ArraySize) → isKnown x ≡ true
+    → c ≡ pick b x ArraySize.Unknown → isKnown c ≡ true → c ≡ pick b x other
 picked true x other hx e h = e
 picked false x other hx e h =
     absurd (let q : _≡_ {A = Bool} false true = ap isKnown (sym e) ∙ h in let v : _≡_ {A = ℕ} 0 1 = cc in omega arith)
 
-passed : (b : Bool) (x : ArraySize) {c : ArraySize} (other : ArraySize) → isKnown x ≡ true → c ≡ pick b x ArraySize.Unknown → isKnown c ≡ false → other ≡ pick b x other
+passed : (b : Bool) (x : ArraySize) {c : ArraySize} (other : ArraySize) → isKnown x ≡ true
+    → c ≡ pick b x ArraySize.Unknown → isKnown c ≡ false → other ≡ pick b x other
 passed true x other hx e h =
     absurd (let q : _≡_ {A = Bool} true false = sym hx ∙ ap isKnown (sym e) ∙ h in let v : _≡_ {A = ℕ} 0 1 = cc in omega arith)
 passed false x other hx e h = refl
@@ -98,25 +102,26 @@ counted-unknown s id (Reference.Size of width) other e h = passed (sameName s of
 counted-unknown s id (Reference.Count of) other e h = passed (sameName s of id) ArraySize.DynamicCount other refl e h
 counted-unknown s id (Reference.ElementSize of) other e h = refl
 
-module _ (s : Text) (id : Part) (fields : List ℕ) (j n : ℕ) where
-  pub count-start : firstCount s id (fieldsFrom s fields (j + 0) (n - 0)) ≡ firstCount s id (fieldsFrom s fields j n)
-  count-start = ap (firstCount s id) (fields-start s fields j n)
+module _ (s : Text) (id : Part) (values fields : List ℕ) (j n : ℕ) where
+  pub count-start : firstCount s id (fieldsFrom values fields (j + 0) (n - 0)) ≡ firstCount s id (fieldsFrom values fields j n)
+  count-start = ap (firstCount s id) (fields-start values fields j n)
 
-  module _ (k : ℕ) {e : ArraySize} (inv : firstCount s id (fieldsFrom s fields (j + k) (n - k)) ≡ e) where
+  module _ (k : ℕ) {e : ArraySize} (inv : firstCount s id (fieldsFrom values fields (j + k) (n - k)) ≡ e) where
     pub count-end : n ≤ k → ArraySize.Unknown ≡ e
     unfolding firstCount
-    count-end h = ap (firstCount s id) (sym (fields-end s fields j n k h)) ∙ inv
+    count-end h = ap (firstCount s id) (sym (fields-end values fields j n k h)) ∙ inv
 
-    module _ (h : k < n) {by : Reference} (er : by ≡ reference (fieldHere s (getD fields (j + k) 0) .desc)) {c : ArraySize} (ec : c ≡ countedBy s id by ArraySize.Unknown) where
-      split-count : countedBy s id by (firstCount s id (fieldsFrom s fields (j + (k + 1)) (n - (k + 1)))) ≡ e
+    module _ (h : k < n) {by : Reference} (er : by ≡ reference (fieldHere values (getD fields (j + k) 0) .desc))
+        {c : ArraySize} (ec : c ≡ countedBy s id by ArraySize.Unknown) where
+      split-count : countedBy s id by (firstCount s id (fieldsFrom values fields (j + (k + 1)) (n - (k + 1)))) ≡ e
       unfolding firstCount
       split-count =
-          ap (λ (by : Reference). countedBy s id by (firstCount s id (fieldsFrom s fields (j + (k + 1)) (n - (k + 1))))) er
-          ∙ ap (firstCount s id) (sym (fields-more s fields j n k h)) ∙ inv
+          ap (λ (by : Reference). countedBy s id by (firstCount s id (fieldsFrom values fields (j + (k + 1)) (n - (k + 1))))) er
+          ∙ ap (firstCount s id) (sym (fields-more values fields j n k h)) ∙ inv
 
       module _ {b : Bool} (eb : b ≡ isKnown c) where
         pub count-found : b ≡ true → c ≡ e
         count-found hb = counted-known s id by _ ec (sym eb ∙ hb) ∙ split-count
 
-        pub count-turn : b ≡ false → firstCount s id (fieldsFrom s fields (j + (k + 1)) (n - (k + 1))) ≡ e
+        pub count-turn : b ≡ false → firstCount s id (fieldsFrom values fields (j + (k + 1)) (n - (k + 1))) ≡ e
         count-turn hb = counted-unknown s id by _ ec (sym eb ∙ hb) ∙ split-count

@@ -1,18 +1,11 @@
 -- What the code looks for among the fields of a declaration: the tests of `hasPayloadSize`, `hasArraySize` and `elementSize` by value.
 -- Assumes nothing.
-use Prim.Native.Nat.{ℕ}
-use mathlib.Core.Bool.{Bool, true, false, _||_}
-use Rattle.definitions.specs.Bytes.{Text, text}
-use Rattle.definitions.specs.Record.{keyAt, isFound}
+use mathlib.Core.Bool.{Bool, true, false}
+use Rattle.definitions.specs.Bytes.{Text}
 use Rattle.definitions.specs.Sizes.{isPayloadSize, isArraySize, isElementSize}
 use Rattle.definitions.specs.declared.ArraySize.{ArraySize}
 use Rattle.definitions.specs.declared.Reference.{Reference}
 use Rattle.references.specs.declared.Wanted.{Wanted}
-
--- the line of a kind that refers to another field stands at a place
-unfoldable pub mayRefer : Text → ℕ → Bool
-mayRefer s at =
-    isFound (keyAt s at (text "field=size\n")) || isFound (keyAt s at (text "field=count\n")) || isFound (keyAt s at (text "field=elemsize\n"))
 
 abbrev pub wantedBy : Text → Wanted → Reference → Bool
 wantedBy s Wanted.PayloadSize by = isPayloadSize s by

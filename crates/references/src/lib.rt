@@ -1,21 +1,21 @@
-// Which field names which (analyzer.rs: `has_payload_size`, `has_array_size`, `array_size`), over the table of places: the fields of the declaration
-// with the index i are the n that the table has from 64 i on.
+// Which field names which (analyzer.rs: `has_payload_size`, `has_array_size`, `array_size`), over the tables of a record: the fields of the
+// declaration with the index i are the n whose places `fields` has from 64 i on.
 
 use definitions::ArraySize;
 use definitions::Field;
 use definitions::FieldDesc;
-use definitions::Found;
 use definitions::MaybeNumber;
 use definitions::Part;
 use definitions::Reference;
 ghost use mathlib.Core.Path.{_≡_};
-ghost use Prim.Native.Nat.{_+_, _*_};
+ghost use Prim.Native.Nat.{_+_, _*_, _/_};
 ghost use lib.ListN.{getD};
 ghost use Rattle.definitions.specs.Bytes.{pick};
-ghost use Rattle.definitions.specs.Sizes.{sameName, reference, isPayloadSize, isArraySize, isElementSize, anyReference, hasPayloadSize, hasArraySize, countedBy, firstCount, arraySize};
-ghost use Rattle.definitions.specs.Tables.{fieldHere, fieldsFrom};
+ghost use Rattle.definitions.specs.Sizes.{sameName, reference, isPayloadSize, isArraySize, isElementSize, anyReference};
+ghost use Rattle.definitions.specs.Sizes.{hasPayloadSize, hasArraySize, countedBy, firstCount, arraySize};
 ghost use Rattle.definitions.specs.declared.ArraySize.{ArraySize};
-ghost use Rattle.references.specs.Wanted.{mayRefer, wantedBy, isKnown};
+ghost use Rattle.tables.specs.Tables.{fieldHere, fieldsFrom};
+ghost use Rattle.references.specs.Wanted.{wantedBy, isKnown};
 
 // The place of field k; 0 outside the table.
 pub fn place_in(fields: &[usize], i: usize, k: usize) -> usize
@@ -28,14 +28,14 @@ pub fn place_in(fields: &[usize], i: usize, k: usize) -> usize
     if n <= k {
         return 0;
     }
-    places::get(fields, i * 64 + k)
+    tables::get(fields, i * 64 + k)
 }
 
 // Field k of the declaration with the index i.
-pub fn field_in(rec: &[u8], fields: &[usize], i: usize, k: usize) -> Field
-    ensures { λ r. ⌜ r ≡ fieldHere (now (rec .entry)) (getD (now (fields .entry)) (i * 64 + k) 0) ⌝ }
+pub fn field_in(values: &[u64], fields: &[usize], i: usize, k: usize) -> Field
+    ensures { λ r. ⌜ r ≡ fieldHere (now (values .entry)) (getD (now (fields .entry)) (i * 64 + k) 0) ⌝ }
 {
-    places::field_here(rec, place_in(fields, i, k))
+    tables::field_here(values, place_in(fields, i, k))
 }
 
 pub fn reference(desc: FieldDesc) -> Reference
@@ -68,31 +68,30 @@ pub fn reference(desc: FieldDesc) -> Reference
     }
 }
 
-// The kind of the field at a place is one that refers to another field: size, count or element size.
-fn may_refer(rec: &[u8], at: usize) -> bool
-    ensures { λ r. ⌜ r ≡ mayRefer (now (rec .entry)) at ⌝ }
+// The kind of the field whose place in the record is `at`.
+fn kind_here(values: &[u64], at: usize) -> u64
+    ensures { λ r. ⌜ r ≡ getD (now (values .entry)) (at / 16 * 17 + 1) 0 ⌝ }
 {
-    if let Found::At(_) = names::key_at(rec, at, b"field=size\n") {
-        return true;
+    let e = at / 16;
+    if values.len() / 17 < e {
+        return 0;
     }
-    if let Found::At(_) = names::key_at(rec, at, b"field=count\n") {
-        return true;
-    }
-    if let Found::At(_) = names::key_at(rec, at, b"field=elemsize\n") {
-        return true;
-    }
-    false
+    tables::number(values, e * 17 + 1)
 }
 
-// What field k refers to. Of other kinds no more is read than the kind.
-fn reference_in(rec: &[u8], fields: &[usize], i: usize, k: usize) -> Reference
-    ensures { λ r. ⌜ r ≡ reference (fieldHere (now (rec .entry)) (getD (now (fields .entry)) (i * 64 + k) 0) .desc) ⌝ }
+// What field k refers to. Only the kinds 3 to 5, a size, a count and an element size, refer to a field; of others no more is read.
+fn reference_in(values: &[u64], fields: &[usize], i: usize, k: usize) -> Reference
+    ensures { λ r. ⌜ r ≡ reference (fieldHere (now (values .entry)) (getD (now (fields .entry)) (i * 64 + k) 0) .desc) ⌝ }
 {
     let at = place_in(fields, i, k);
-    if !may_refer(rec, at) {
+    let kind = kind_here(values, at);
+    if kind < 3 {
         return Reference::None;
     }
-    let f = places::field_here(rec, at);
+    if 5 < kind {
+        return Reference::None;
+    }
+    let f = tables::field_here(values, at);
     let desc = f.desc;
     reference(desc)
 }
@@ -152,12 +151,19 @@ fn wanted_by(rec: &[u8], wanted: Wanted, by: Reference) -> bool
     }
 }
 
-fn any_reference(rec: &[u8], fields: &[usize], i: usize, n: usize, wanted: Wanted) -> bool
-    ensures { λ r. ⌜ r ≡ anyReference (wantedBy (now (rec .entry)) wanted) (fieldsFrom (now (rec .entry)) (now (fields .entry)) (i * 64) n) ⌝ }
+fn any_reference(
+    rec: &[u8],
+    values: &[u64],
+    fields: &[usize],
+    i: usize,
+    n: usize,
+    wanted: Wanted,
+) -> bool
+    ensures { λ r. ⌜ r ≡ anyReference (wantedBy (now (rec .entry)) wanted) (fieldsFrom (now (values .entry)) (now (fields .entry)) (i * 64) n) ⌝ }
 {
     let mut k = 0;
     while k < n {
-        let by = reference_in(rec, fields, i, k);
+        let by = reference_in(values, fields, i, k);
         if wanted_by(rec, wanted, by) {
             return true;
         }
@@ -166,22 +172,36 @@ fn any_reference(rec: &[u8], fields: &[usize], i: usize, n: usize, wanted: Wante
     false
 }
 
-pub fn has_payload_size(rec: &[u8], fields: &[usize], i: usize, n: usize) -> bool
-    ensures { λ r. ⌜ r ≡ hasPayloadSize (now (rec .entry)) (fieldsFrom (now (rec .entry)) (now (fields .entry)) (i * 64) n) ⌝ }
+pub fn has_payload_size(rec: &[u8], values: &[u64], fields: &[usize], i: usize, n: usize) -> bool
+    ensures { λ r. ⌜ r ≡ hasPayloadSize (now (rec .entry)) (fieldsFrom (now (values .entry)) (now (fields .entry)) (i * 64) n) ⌝ }
 {
-    any_reference(rec, fields, i, n, Wanted::PayloadSize)
+    any_reference(rec, values, fields, i, n, Wanted::PayloadSize)
 }
 
-pub fn has_array_size(rec: &[u8], fields: &[usize], i: usize, n: usize, id: Part) -> bool
-    ensures { λ r. ⌜ r ≡ hasArraySize (now (rec .entry)) (fieldsFrom (now (rec .entry)) (now (fields .entry)) (i * 64) n) id ⌝ }
+pub fn has_array_size(
+    rec: &[u8],
+    values: &[u64],
+    fields: &[usize],
+    i: usize,
+    n: usize,
+    id: Part,
+) -> bool
+    ensures { λ r. ⌜ r ≡ hasArraySize (now (rec .entry)) (fieldsFrom (now (values .entry)) (now (fields .entry)) (i * 64) n) id ⌝ }
 {
-    any_reference(rec, fields, i, n, Wanted::ArraySize(id))
+    any_reference(rec, values, fields, i, n, Wanted::ArraySize(id))
 }
 
-pub fn has_element_size(rec: &[u8], fields: &[usize], i: usize, n: usize, id: Part) -> bool
-    ensures { λ r. ⌜ r ≡ anyReference (isElementSize (now (rec .entry)) id) (fieldsFrom (now (rec .entry)) (now (fields .entry)) (i * 64) n) ⌝ }
+pub fn has_element_size(
+    rec: &[u8],
+    values: &[u64],
+    fields: &[usize],
+    i: usize,
+    n: usize,
+    id: Part,
+) -> bool
+    ensures { λ r. ⌜ r ≡ anyReference (isElementSize (now (rec .entry)) id) (fieldsFrom (now (values .entry)) (now (fields .entry)) (i * 64) n) ⌝ }
 {
-    any_reference(rec, fields, i, n, Wanted::ElementSize(id))
+    any_reference(rec, values, fields, i, n, Wanted::ElementSize(id))
 }
 
 // ---- the size of an array
@@ -224,12 +244,19 @@ fn is_known(size: ArraySize) -> bool
 }
 
 // The first size or count field of the array decides.
-fn first_count(rec: &[u8], fields: &[usize], i: usize, n: usize, id: Part) -> ArraySize
-    ensures { λ r. ⌜ r ≡ firstCount (now (rec .entry)) id (fieldsFrom (now (rec .entry)) (now (fields .entry)) (i * 64) n) ⌝ }
+fn first_count(
+    rec: &[u8],
+    values: &[u64],
+    fields: &[usize],
+    i: usize,
+    n: usize,
+    id: Part,
+) -> ArraySize
+    ensures { λ r. ⌜ r ≡ firstCount (now (rec .entry)) id (fieldsFrom (now (values .entry)) (now (fields .entry)) (i * 64) n) ⌝ }
 {
     let mut k = 0;
     while k < n {
-        let by = reference_in(rec, fields, i, k);
+        let by = reference_in(values, fields, i, k);
         let size = counted_by(rec, id, by);
         if is_known(size) {
             return size;
@@ -242,16 +269,17 @@ fn first_count(rec: &[u8], fields: &[usize], i: usize, n: usize, id: Part) -> Ar
 // `array_size` of the array `id` with that `size`, in the declaration with the index i.
 pub fn array_size(
     rec: &[u8],
+    values: &[u64],
     fields: &[usize],
     i: usize,
     n: usize,
     id: Part,
     size: MaybeNumber,
 ) -> ArraySize
-    ensures { λ r. ⌜ r ≡ arraySize (now (rec .entry)) (fieldsFrom (now (rec .entry)) (now (fields .entry)) (i * 64) n) id size ⌝ }
+    ensures { λ r. ⌜ r ≡ arraySize (now (rec .entry)) (fieldsFrom (now (values .entry)) (now (fields .entry)) (i * 64) n) id size ⌝ }
 {
     match size {
-        MaybeNumber::None => first_count(rec, fields, i, n, id),
+        MaybeNumber::None => first_count(rec, values, fields, i, n, id),
         MaybeNumber::Some(count) => ArraySize::StaticCount(count),
     }
 }

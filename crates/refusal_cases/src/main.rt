@@ -12,6 +12,7 @@ use libc::STDOUT_FILENO;
 use record::Reading;
 use sizes::Sizing;
 ghost use mathlib.Core.Path.{_≡_};
+ghost use Prim.Native.Nat.{_<_};
 ghost use Rattle.definitions.specs.Refusals.{number};
 
 fn number_of(why: Refusal) -> u64
@@ -51,13 +52,15 @@ fn mixed(digest: u64, number: u64) -> u64 {
     (d * 31 + n) % 4294967296
 }
 
-// A digest with the first n entries of a table more.
-fn mixed_in(digest: u64, table: &[u64; 32], n: usize) -> u64 {
+// A digest with the number k of each of the first n rows more.
+fn mixed_in(digest: u64, rows: &[u64; 352], k: usize, n: usize) -> u64
+    requires { ⌜ k < 11 ⌝ }
+{
     let mut d = digest;
     let mut i = 0;
     while i < 32 {
         if i < n {
-            d = mixed(d, table[i]);
+            d = mixed(d, tables::number(rows, i * 11 + k));
         }
         i += 1;
     }
@@ -68,9 +71,9 @@ fn mixed_in(digest: u64, table: &[u64; 32], n: usize) -> u64 {
 fn judge_sizes(
     rec: &[u8],
     head: Head,
-    places: &[usize; 32],
+    rows: &mut [u64; 352],
+    values: &[u64],
     fields: &[usize; 2048],
-    counts: &[usize; 32],
     n: usize,
 ) -> Judged {
     if 32 < n {
@@ -79,26 +82,13 @@ fn judge_sizes(
             digest: 0,
         };
     }
-    let mut own = [0u64; 32];
-    let mut parents = [0u64; 32];
-    let mut payloads = [0u64; 32];
-    match sizes::check_sizes(
-        rec,
-        head,
-        places,
-        fields,
-        counts,
-        n,
-        &mut own,
-        &mut parents,
-        &mut payloads,
-    ) {
+    match sizes::check_sizes(rec, head, rows, values, fields, n) {
         Sizing::Target(_) => {
-            let a = mixed_in(0, &own, n);
-            let b = mixed_in(a, &parents, n);
+            let a = mixed_in(0, rows, 8, n);
+            let b = mixed_in(a, rows, 9, n);
             Judged {
                 refused: 0,
-                digest: mixed_in(b, &payloads, n),
+                digest: mixed_in(b, rows, 10, n),
             }
         }
         Sizing::Refuse(why) => Judged {
@@ -109,11 +99,11 @@ fn judge_sizes(
 }
 
 fn judge(rec: &[u8]) -> Judged {
-    let mut places = [0usize; 32];
+    let mut rows = [0u64; 352];
+    let mut values = [0u64; 17408];
     let mut fields = [0usize; 2048];
-    let mut counts = [0usize; 32];
-    match record::read_record(rec, &mut places, &mut fields, &mut counts) {
-        Reading::Pass(head, n) => judge_sizes(rec, head, &places, &fields, &counts, n),
+    match record::read_record(rec, &mut rows, &mut values, &mut fields) {
+        Reading::Pass(head, n) => judge_sizes(rec, head, &mut rows, &values, &fields, n),
         Reading::Refuse(why) => Judged {
             refused: number_of(why),
             digest: 0,

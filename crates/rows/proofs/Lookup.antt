@@ -1,15 +1,18 @@
 -- The look-up of a row by its name: `find` gives the index, and the tables the row.
 -- Assumes nothing.
-use Prim.Native.Nat.{ℕ, zero, suc, _+_}
+use Prim.Native.Nat.{ℕ, zero, suc, _+_, _*_, _/_, _≤_, _<_}
 use mathlib.Core.Bool.{Bool, true, false}
 use mathlib.Core.List.{List}
 use mathlib.Core.Option.{Option, none, some}
 use mathlib.Core.Path.{_≡_, refl, sym, ap, _∙_}
-use lib.ListN.{getD}
+use native.Mathlib.Omega.{arith}
+use native.Mathlib.Nat.{div-lt-iff-lt-mul}
+use lib.ListN.{length, getD}
 use Rattle.definitions.specs.Bytes.{Text}
 use Rattle.definitions.specs.Record.{onFound}
-use Rattle.definitions.specs.Sizes.{Row, sameName, addSize, totalSize, lookup, totalOf, parentOf, EnumOf, enumIs, noEnum, descEnum, enumOf, isEnum, isBitfield}
-use Rattle.definitions.specs.Tables.{declHere, decode, rowIn, rowsFrom}
+use Rattle.definitions.specs.Sizes.{Row, sameName, addSize, totalSize, lookup, totalOf, parentOf}
+use Rattle.definitions.specs.Sizes.{EnumOf, enumIs, noEnum, descEnum, enumOf, isEnum, isBitfield}
+use Rattle.definitions.specs.Tables.{decode}
 use Rattle.definitions.specs.declared.Decl.{Decl}
 use Rattle.definitions.specs.declared.DeclDesc.{DeclDesc}
 use Rattle.definitions.specs.declared.FieldDesc.{FieldDesc}
@@ -17,19 +20,34 @@ use Rattle.definitions.specs.declared.Found.{Found}
 use Rattle.definitions.specs.declared.MaybePart.{MaybePart}
 use Rattle.definitions.specs.declared.Part.{Part}
 use Rattle.definitions.specs.declared.Size.{Size}
-use Rattle.places.specs.Places.{declsFrom, which}
+use Rattle.tables.specs.Tables.{declHere, rowIn, rowsFrom, declsFrom, which}
+use Rattle.bits.proofs.Coding.{decode-static, decode-outside}
 use Rattle.rows.specs.Enums.{enumType, isEnumType}
 use Rattle.rows.specs.declared.EnumType.{EnumType}
 
-lookup-which : (s p own par pay : List ℕ) (name : Part) (i m : ℕ)
-    → lookup s (rowsFrom s p own par pay i m) name ≡ onFound (which s name i (declsFrom s p i m)) none (λ j. some (rowIn s p own par pay j))
+-- ---- the sizes of a row, outside the table
+
+no-bits : Size.Static 0 ≡ decode 0
+no-bits = decode-static (omega arith)
+
+module _ (rows : List ℕ) (i k : ℕ) where
+  pub size-past : length rows / 11 < i → Size.Static 0 ≡ decode (getD rows (i * 11 + k) 0)
+  size-past h = decode-outside rows (i * 11 + k) (omega (arith, div-lt-iff-lt-mul {k = 11} {x = length rows} {y = i} (omega arith) .0 h)) no-bits
+
+  pub size-behind : length rows ≤ k → Size.Static 0 ≡ decode (getD rows (i * 11 + k) 0)
+  size-behind h = decode-outside rows (i * 11 + k) (omega arith) no-bits
+
+-- ---- the look-up
+
+lookup-which : (s rows : List ℕ) (name : Part) (i m : ℕ)
+    → lookup s (rowsFrom rows i m) name ≡ onFound (which s name i (declsFrom rows i m)) none (λ j. some (rowIn rows j))
 unfolding lookup rowsFrom which declsFrom
-lookup-which s p own par pay name i zero = refl
-lookup-which s p own par pay name i (suc m) = by (sameName s (declHere s (getD p i 0) .id) name) (lookup-which s p own par pay name (i + 1) m)
+lookup-which s rows name i zero = refl
+lookup-which s rows name i (suc m) = by (sameName s (declHere rows i .id) name) (lookup-which s rows name (i + 1) m)
   where
-    by : (b : Bool) → lookup s (rowsFrom s p own par pay (i + 1) m) name ≡ onFound (which s name (i + 1) (declsFrom s p (i + 1) m)) none (λ j. some (rowIn s p own par pay j))
-        → _≡_ {A = Option Row} (elim b [ true ↦ some (rowIn s p own par pay i) | false ↦ lookup s (rowsFrom s p own par pay (i + 1) m) name ])
-        (onFound (elim b [ true ↦ Found.At i | false ↦ which s name (i + 1) (declsFrom s p (i + 1) m) ]) none (λ j. some (rowIn s p own par pay j)))
+    by : (b : Bool) → lookup s (rowsFrom rows (i + 1) m) name ≡ onFound (which s name (i + 1) (declsFrom rows (i + 1) m)) none (λ j. some (rowIn rows j))
+        → _≡_ {A = Option Row} (elim b [ true ↦ some (rowIn rows i) | false ↦ lookup s (rowsFrom rows (i + 1) m) name ])
+        (onFound (elim b [ true ↦ Found.At i | false ↦ which s name (i + 1) (declsFrom rows (i + 1) m) ]) none (λ j. some (rowIn rows j)))
     by true h = refl
     by false h = h
 
@@ -42,30 +60,29 @@ parentOn o = elim o [ some r ↦ addSize (r .declSize) (r .parentSize) | none �
 abbrev enumOn : Option Row → EnumOf
 enumOn o = elim o [ some r ↦ descEnum (r .decl .desc) | none ↦ noEnum ]
 
-module _ (s p own par pay : List ℕ) (n : ℕ) (name : Part) {r : Found} (e : r ≡ which s name 0 (declsFrom s p 0 n)) where
-  looked : {q : Found} → r ≡ q → lookup s (rowsFrom s p own par pay 0 n) name ≡ onFound q none (λ j. some (rowIn s p own par pay j))
-  looked h = lookup-which s p own par pay name 0 n ∙ ap (λ (f : Found). onFound f none (λ j. some (rowIn s p own par pay j))) (sym e ∙ h)
+module _ (s rows : List ℕ) (n : ℕ) (name : Part) {r : Found} (e : r ≡ which s name 0 (declsFrom rows 0 n)) where
+  looked : {q : Found} → r ≡ q → lookup s (rowsFrom rows 0 n) name ≡ onFound q none (λ j. some (rowIn rows j))
+  looked h = lookup-which s rows name 0 n ∙ ap (λ (f : Found). onFound f none (λ j. some (rowIn rows j))) (sym e ∙ h)
 
-  pub total-none : r ≡ Found.Nothing → Size.Unknown ≡ totalOf s (rowsFrom s p own par pay 0 n) name
+  pub total-none : r ≡ Found.Nothing → Size.Unknown ≡ totalOf s (rowsFrom rows 0 n) name
   total-none h = sym (ap totalOn (looked h))
 
-  pub parent-none : {m : MaybePart} → m ≡ MaybePart.Some name → r ≡ Found.Nothing → Size.Static 0 ≡ parentOf s (rowsFrom s p own par pay 0 n) m
-  parent-none k h = sym (ap (parentOf s (rowsFrom s p own par pay 0 n)) k ∙ ap parentOn (looked h))
+  pub parent-none : {m : MaybePart} → m ≡ MaybePart.Some name → r ≡ Found.Nothing → Size.Static 0 ≡ parentOf s (rowsFrom rows 0 n) m
+  parent-none k h = sym (ap (parentOf s (rowsFrom rows 0 n)) k ∙ ap parentOn (looked h))
 
-  pub enum-none : r ≡ Found.Nothing → EnumType.None ≡ enumType (enumOf s (rowsFrom s p own par pay 0 n) name)
+  pub enum-none : r ≡ Found.Nothing → EnumType.None ≡ enumType (enumOf s (rowsFrom rows 0 n) name)
   enum-none h = sym (ap (λ (o : Option Row). enumType (enumOn o)) (looked h))
 
   module _ {i : ℕ} (h : r ≡ Found.At i) where
-    pub enum-found : {at : ℕ} → at ≡ getD p i 0 → {d : Decl} → d ≡ declHere s at → {t : EnumType} → t ≡ enumType (descEnum (d .desc))
-        → t ≡ enumType (enumOf s (rowsFrom s p own par pay 0 n) name)
-    enum-found ea ed et = et ∙ ap (λ (d : Decl). enumType (descEnum (d .desc))) (ed ∙ ap (declHere s) ea) ∙ sym (ap (λ (o : Option Row). enumType (enumOn o)) (looked h))
+    pub enum-found : {d : Decl} → d ≡ declHere rows i → {t : EnumType} → t ≡ enumType (descEnum (d .desc)) → t ≡ enumType (enumOf s (rowsFrom rows 0 n) name)
+    enum-found ed et = et ∙ ap (λ (d : Decl). enumType (descEnum (d .desc))) ed ∙ sym (ap (λ (o : Option Row). enumType (enumOn o)) (looked h))
 
-    module _ {a b : Size} (ea : a ≡ decode (getD own i 0)) (eb : b ≡ decode (getD par i 0)) {x : Size} (ex : x ≡ addSize a b) where
-      pub total-found : {c : Size} → c ≡ decode (getD pay i 0) → {y : Size} → y ≡ addSize x c → y ≡ totalOf s (rowsFrom s p own par pay 0 n) name
+    module _ {a b : Size} (ea : a ≡ decode (getD rows (i * 11 + 8) 0)) (eb : b ≡ decode (getD rows (i * 11 + 9) 0)) {x : Size} (ex : x ≡ addSize a b) where
+      pub total-found : {c : Size} → c ≡ decode (getD rows (i * 11 + 10) 0) → {y : Size} → y ≡ addSize x c → y ≡ totalOf s (rowsFrom rows 0 n) name
       total-found ec ey = ey ∙ rw (ex, ea, eb, ec) (sym (ap totalOn (looked h)))
 
-      pub parent-found : {m : MaybePart} → m ≡ MaybePart.Some name → x ≡ parentOf s (rowsFrom s p own par pay 0 n) m
-      parent-found k = ex ∙ rw (ea, eb) (sym (ap (parentOf s (rowsFrom s p own par pay 0 n)) k ∙ ap parentOn (looked h)))
+      pub parent-found : {m : MaybePart} → m ≡ MaybePart.Some name → x ≡ parentOf s (rowsFrom rows 0 n) m
+      parent-found k = ex ∙ rw (ea, eb) (sym (ap (parentOf s (rowsFrom rows 0 n)) k ∙ ap parentOn (looked h)))
 
 pub parent-absent : (s : Text) (rows : List Row) {m : MaybePart} → m ≡ MaybePart.None → Size.Static 0 ≡ parentOf s rows m
 parent-absent s rows e = sym (ap (parentOf s rows) e)
@@ -79,14 +96,20 @@ is-enum-type : (x : EnumOf) → isEnumType (enumType x) ≡ isEnum x
 is-enum-type (enumIs width isOpen isComplete) = refl
 is-enum-type noEnum = refl
 
-module _ (s p : List ℕ) (n : ℕ) {d : FieldDesc} where
-  pub bitfield-as : {c : FieldDesc} {b : Bool} → d ≡ c → ((own par pay : List ℕ) → b ≡ isBitfield s (rowsFrom s p own par pay 0 n) c)
-      → (own par pay : List ℕ) → b ≡ isBitfield s (rowsFrom s p own par pay 0 n) d
-  bitfield-as e h own par pay = h own par pay ∙ ap (isBitfield s (rowsFrom s p own par pay 0 n)) (sym e)
+module _ (s : Text) (rows : List Row) {d : FieldDesc} where
+  pub bitfield-as : {c : FieldDesc} {b : Bool} → d ≡ c → b ≡ isBitfield s rows c → b ≡ isBitfield s rows d
+  bitfield-as e h = h ∙ ap (isBitfield s rows) (sym e)
 
-  pub bitfield-typedef : {id type : Part} → d ≡ FieldDesc.Typedef id type → {t : EnumType}
-      → ((own par pay : List ℕ) → t ≡ enumType (enumOf s (rowsFrom s p own par pay 0 n) type)) → {b : Bool} → b ≡ isEnumType t
-      → (own par pay : List ℕ) → b ≡ isBitfield s (rowsFrom s p own par pay 0 n) d
-  bitfield-typedef {id} {type} e {t} et eb own par pay =
-      eb ∙ ap isEnumType (et own par pay) ∙ is-enum-type (enumOf s (rowsFrom s p own par pay 0 n) type)
-      ∙ ap (isBitfield s (rowsFrom s p own par pay 0 n)) (sym e)
+  pub bitfield-typedef : {id type : Part} → d ≡ FieldDesc.Typedef id type → {t : EnumType} → t ≡ enumType (enumOf s rows type)
+      → {b : Bool} → b ≡ isEnumType t → b ≡ isBitfield s rows d
+  bitfield-typedef {id} {type} e et eb = eb ∙ ap isEnumType et ∙ is-enum-type (enumOf s rows type) ∙ ap (isBitfield s rows) (sym e)
+
+-- ---- for callers that match on the answer
+
+pub enum-is : (x : EnumOf) {width : ℕ} {isOpen isComplete : Bool} → EnumType.Enum width isOpen isComplete ≡ enumType x → x ≡ enumIs width isOpen isComplete
+enum-is (enumIs width isOpen isComplete) e = cc
+enum-is noEnum e = absurd (let v : _≡_ {A = ℕ} 0 1 = cc in omega arith)
+
+pub enum-is-not : (x : EnumOf) → EnumType.None ≡ enumType x → x ≡ noEnum
+enum-is-not (enumIs width isOpen isComplete) e = absurd (let v : _≡_ {A = ℕ} 0 1 = cc in omega arith)
+enum-is-not noEnum e = refl

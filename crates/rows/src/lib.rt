@@ -1,5 +1,5 @@
-// The rows of `Schema` (analyzer.rs) over tables indexed by declaration order: what a declaration takes from those before it, looked up by name
-// among the first n. A size stands in its table as a number.
+// The rows of `Schema` (analyzer.rs), 11 numbers each in declaration order: what a declaration takes from those before it, looked up by name among
+// the first n. Each of the three sizes of a row stands there as a number.
 
 use definitions::DeclDesc;
 use definitions::FieldDesc;
@@ -8,57 +8,76 @@ use definitions::MaybePart;
 use definitions::Part;
 use definitions::Size;
 ghost use mathlib.Core.Path.{_≡_};
-ghost use mathlib.Core.List.{List};
-ghost use Prim.Native.Nat.{ℕ};
+ghost use Prim.Native.Nat.{_+_, _*_};
+ghost use lib.ListN.{getD};
 ghost use Rattle.definitions.specs.Sizes.{totalOf, parentOf, descEnum, enumOf, isBitfield};
-ghost use Rattle.definitions.specs.Tables.{rowsFrom};
+ghost use Rattle.definitions.specs.Tables.{decode};
+ghost use Rattle.tables.specs.Tables.{rowsFrom};
 ghost use Rattle.rows.specs.Enums.{enumType, isEnumType};
 
-// `schema.total_size` of a type by its name.
-pub fn total_of(
-    rec: &[u8],
-    places: &[usize],
-    own: &[u64],
-    parents: &[u64],
-    payloads: &[u64],
-    n: usize,
-    name: Part,
-) -> Size
-    ensures { λ r. ⌜ r ≡ totalOf (now (rec .entry)) (rowsFrom (now (rec .entry)) (now (places .entry)) (now (own .entry)) (now (parents .entry)) (now (payloads .entry)) 0 n) name ⌝ }
+// ---- the sizes of a row
+
+// Number k of row i as a size; that of no bits outside the table.
+fn size_in(rows: &[u64], i: usize, k: usize) -> Size
+    ensures { λ r. ⌜ r ≡ decode (getD (now (rows .entry)) (i * 11 + k) 0) ⌝ }
 {
-    let Found::At(i) = places::find(rec, places, n, name) else {
+    let n = rows.len();
+    if n / 11 < i {
+        return Size::Static(0);
+    }
+    if n <= k {
+        return Size::Static(0);
+    }
+    bits::get_size(rows, i * 11 + k)
+}
+
+fn own_size(rows: &[u64], i: usize) -> Size
+    ensures { λ r. ⌜ r ≡ decode (getD (now (rows .entry)) (i * 11 + 8) 0) ⌝ }
+{
+    size_in(rows, i, 8)
+}
+
+fn parent_size(rows: &[u64], i: usize) -> Size
+    ensures { λ r. ⌜ r ≡ decode (getD (now (rows .entry)) (i * 11 + 9) 0) ⌝ }
+{
+    size_in(rows, i, 9)
+}
+
+fn payload_size(rows: &[u64], i: usize) -> Size
+    ensures { λ r. ⌜ r ≡ decode (getD (now (rows .entry)) (i * 11 + 10) 0) ⌝ }
+{
+    size_in(rows, i, 10)
+}
+
+// `schema.total_size` of a type by its name.
+pub fn total_of(rec: &[u8], rows: &[u64], n: usize, name: Part) -> Size
+    ensures { λ r. ⌜ r ≡ totalOf (now (rec .entry)) (rowsFrom (now (rows .entry)) 0 n) name ⌝ }
+{
+    let Found::At(i) = tables::find(rec, rows, n, name) else {
         return Size::Unknown;
     };
-    let a = bits::get_size(own, i);
-    let b = bits::get_size(parents, i);
-    let c = bits::get_size(payloads, i);
+    let a = own_size(rows, i);
+    let b = parent_size(rows, i);
+    let c = payload_size(rows, i);
     bits::add_size(bits::add_size(a, b), c)
 }
 
 // `schema.decl_size(key) + schema.parent_size(key)` of the parent.
-pub fn parent_of(
-    rec: &[u8],
-    places: &[usize],
-    own: &[u64],
-    parents: &[u64],
-    payloads: &[u64],
-    n: usize,
-    parent: MaybePart,
-) -> Size
-    ensures { λ r. ⌜ r ≡ parentOf (now (rec .entry)) (rowsFrom (now (rec .entry)) (now (places .entry)) (now (own .entry)) (now (parents .entry)) (now (payloads .entry)) 0 n) parent ⌝ }
+pub fn parent_of(rec: &[u8], rows: &[u64], n: usize, parent: MaybePart) -> Size
+    ensures { λ r. ⌜ r ≡ parentOf (now (rec .entry)) (rowsFrom (now (rows .entry)) 0 n) parent ⌝ }
 {
     let MaybePart::Some(name) = parent else {
         return Size::Static(0);
     };
-    let Found::At(i) = places::find(rec, places, n, name) else {
+    let Found::At(i) = tables::find(rec, rows, n, name) else {
         return Size::Static(0);
     };
-    let a = bits::get_size(own, i);
-    let b = bits::get_size(parents, i);
+    let a = own_size(rows, i);
+    let b = parent_size(rows, i);
     bits::add_size(a, b)
 }
 
-// ---- a type that is an enum; no size is looked at, so any size tables will do
+// ---- a type that is an enum
 
 pub enum EnumType {
     Enum {
@@ -90,14 +109,13 @@ fn desc_enum(desc: DeclDesc) -> EnumType
 }
 
 // Its width, and the marks open and complete.
-pub fn enum_of(rec: &[u8], places: &[usize], n: usize, name: Part) -> EnumType
-    ensures { λ r. ⌜ ((own parents payloads : List ℕ) → r ≡ enumType (enumOf (now (rec .entry)) (rowsFrom (now (rec .entry)) (now (places .entry)) own parents payloads 0 n) name)) ⌝ }
+pub fn enum_of(rec: &[u8], rows: &[u64], n: usize, name: Part) -> EnumType
+    ensures { λ r. ⌜ r ≡ enumType (enumOf (now (rec .entry)) (rowsFrom (now (rows .entry)) 0 n) name) ⌝ }
 {
-    let Found::At(i) = places::find(rec, places, n, name) else {
+    let Found::At(i) = tables::find(rec, rows, n, name) else {
         return EnumType::None;
     };
-    let at = places::get(places, i);
-    let d = places::decl_here(rec, at);
+    let d = tables::decl_here(rows, i);
     let desc = d.desc;
     desc_enum(desc)
 }
@@ -116,8 +134,8 @@ fn is_enum(e: EnumType) -> bool
 }
 
 // `is_bitfield`: a typedef only where its type is an enum.
-pub fn is_bitfield(rec: &[u8], places: &[usize], n: usize, desc: FieldDesc) -> bool
-    ensures { λ r. ⌜ ((own parents payloads : List ℕ) → r ≡ isBitfield (now (rec .entry)) (rowsFrom (now (rec .entry)) (now (places .entry)) own parents payloads 0 n) desc) ⌝ }
+pub fn is_bitfield(rec: &[u8], rows: &[u64], n: usize, desc: FieldDesc) -> bool
+    ensures { λ r. ⌜ r ≡ isBitfield (now (rec .entry)) (rowsFrom (now (rows .entry)) 0 n) desc ⌝ }
 {
     match desc {
         FieldDesc::Checksum { field_id: _ } => false,
@@ -151,6 +169,6 @@ pub fn is_bitfield(rec: &[u8], places: &[usize], n: usize, desc: FieldDesc) -> b
         } => false,
         FieldDesc::Scalar { id: _, width: _ } => true,
         FieldDesc::Flag { id: _ } => true,
-        FieldDesc::Typedef { id: _, type_id } => is_enum(enum_of(rec, places, n, type_id)),
+        FieldDesc::Typedef { id: _, type_id } => is_enum(enum_of(rec, rows, n, type_id)),
     }
 }

@@ -16,16 +16,18 @@ use Rattle.definitions.specs.declared.Verdict.{Verdict}
 use Rattle.stream.specs.Stream.{runBits, checkText, chunkText}
 use Rattle.stream.specs.Stream as flow
 use Rattle.chunks.specs.Steps.{Advance, grownBits, bitAdvance}
+use Rattle.tables.specs.Tables.{Tables, tablesOf}
 use Rattle.emits.specs.Target.{settingAt, restAt}
 use Rattle.runs.specs.Counted.{laterBits}
 
 -- ---- `later_bits`, by its tests
 
-module _ (s places own parents payloads fields : List ℕ) (i n k : ℕ) (pending : Bool) (sum : ℕ) where
+module _ (s rows values fields : List ℕ) (i n k : ℕ) (pending : Bool) (sum : ℕ) where
+  abbrev tables : Tables
+  tables = tablesOf s rows values fields
+
   abbrev Says : ℕ → Type 0
-  Says r =
-      (order : EndiannessValue) (m : Arrays)
-      → r ≡ laterBits pending sum (runBits (settingAt s places own parents payloads fields i n order m) (restAt s places own parents payloads fields i n (k + 1)))
+  Says r = (order : EndiannessValue) (m : Arrays) → r ≡ laterBits pending sum (runBits (settingAt tables i n order m) (restAt tables i n (k + 1)))
 
   pub later-pending : pending ≡ true → Says 0
   unfolding laterBits
@@ -37,7 +39,7 @@ module _ (s places own parents payloads fields : List ℕ) (i n k : ℕ) (pendin
     later-open h order m = rw (e, ne-eqb _ _ h, laterBits)
 
     pub later-closes : sum % 8 ≡ 0 → {r : ℕ} → ((order : EndiannessValue) (m : Arrays)
-        → r ≡ runBits (settingAt s places own parents payloads fields i n order m) (restAt s places own parents payloads fields i n (k + 1))) → Says r
+        → r ≡ runBits (settingAt tables i n order m) (restAt tables i n (k + 1))) → Says r
     unfolding laterBits
     later-closes h q order m = rw (e, eq-eqb _ _ h, laterBits) (q order m)
 

@@ -5,7 +5,6 @@ use mathlib.Core.List.{List, _∷_}
 use mathlib.Core.Path.{_≡_, sym, ap, _∙_}
 use Prim.Native.Nat.{ℕ, _+_, _≤_, _<_, _^_}
 use native.Mathlib.Omega.{arith}
-use Rattle.definitions.specs.Bytes.{Text}
 use Rattle.definitions.specs.Sizes.{Annotated, isBitfield, annotateField}
 use Rattle.definitions.specs.FieldParser.{Setting, staticWidth, isBit}
 use Rattle.definitions.specs.declared.Arrays.{Arrays}
@@ -14,43 +13,42 @@ use Rattle.definitions.specs.declared.EndiannessValue.{EndiannessValue}
 use Rattle.definitions.specs.declared.Field.{Field}
 use Rattle.definitions.specs.declared.Part.{Part}
 use Rattle.definitions.specs.declared.Size.{Size}
-use Rattle.definitions.specs.Tables.{rowsFrom}
 use Rattle.stream.specs.Stream.{runBits, widthOf}
 use Rattle.stream.proofs.Steps.{run-bit, run-no}
 use Rattle.chunks.proofs.Within.{run-below}
-use Rattle.emits.specs.Target.{rowsOf, fieldsOf, settingAt, restAt, fieldIn, annotatedAt, Fine}
+use Rattle.tables.specs.Tables.{rowsFrom, Tables, tablesOf, rowsOf, fieldsOf}
+use Rattle.emits.specs.Target.{settingAt, restAt, fieldIn, annotatedAt, Fine}
 use Rattle.emits.proofs.Rests.{rest-end, rest-step}
 use Rattle.emits.proofs.Fines.{sum-fine}
 
 -- ---- a bit field without a condition
 
-module _ (s places : Text) (i : ℕ) (f : Field) {d : Cond} (e : d ≡ f .cond) where
+module _ (s rows : List ℕ) (i : ℕ) (f : Field) {d : Cond} (e : d ≡ f .cond) where
   abbrev Says : Bool → Type 0
-  Says b = (own parents payloads fields : List ℕ) (n : ℕ) (order : EndiannessValue) (m : Arrays)
-      → b ≡ isBit (settingAt s places own parents payloads fields i n order m) f
+  Says b = (values fields : List ℕ) (n : ℕ) (order : EndiannessValue) (m : Arrays) → b ≡ isBit (settingAt (tablesOf s rows values fields) i n order m) f
 
-  abbrev bitBy : (own parents payloads : List ℕ) → Cond → Bool
-  bitBy own parents payloads d = elim d [
-    | Cond.None ↦ isBitfield s (rowsFrom s places own parents payloads 0 i) (f .desc)
-    | Cond.Some id value ↦ false
-  ]
+  abbrev bitBy : Cond → Bool
+  bitBy d = elim d [ Cond.None ↦ isBitfield s (rowsFrom rows 0 i) (f .desc) | Cond.Some id value ↦ false ]
 
-  pub bit-plain : d ≡ Cond.None → {b : Bool} → ((own parents payloads : List ℕ) → b ≡ isBitfield s (rowsFrom s places own parents payloads 0 i) (f .desc)) → Says b
+  pub bit-plain : d ≡ Cond.None → {b : Bool} → b ≡ isBitfield s (rowsFrom rows 0 i) (f .desc) → Says b
   unfolding isBit
-  bit-plain h q own parents payloads fields n order m = q own parents payloads ∙ ap (bitBy own parents payloads) (sym h ∙ e)
+  bit-plain h q values fields n order m = q ∙ ap bitBy (sym h ∙ e)
 
   pub bit-optional : {id : Part} {value : ℕ} → d ≡ Cond.Some id value → Says false
   unfolding isBit
-  bit-optional h own parents payloads fields n order m = ap (bitBy own parents payloads) (sym h ∙ e)
+  bit-optional h values fields n order m = ap bitBy (sym h ∙ e)
 
 -- ---- the walk
 
-module _ (s places own parents payloads fields : List ℕ) (i n k : ℕ) where
+module _ (s rows values fields : List ℕ) (i n k : ℕ) where
+  abbrev tables : Tables
+  tables = tablesOf s rows values fields
+
   abbrev rest : ℕ → List Annotated
-  rest = restAt s places own parents payloads fields i n
+  rest = restAt tables i n
 
   abbrev set : EndiannessValue → Arrays → Setting
-  set = settingAt s places own parents payloads fields i n
+  set = settingAt tables i n
 
   -- the sum so far, with what is left from number j on
   pub record Summed (j sum : ℕ) : Type 0 where
@@ -65,24 +63,25 @@ module _ (s places own parents payloads fields : List ℕ) (i n k : ℕ) where
   module _ (j sum : ℕ) (inv : Summed j sum) where
     pub run-end : n ≤ j → All sum
     unfolding runBits
-    run-end h order m = omega (arith, inv .same order m, ap (runBits (set order m)) (rest-end s places own parents payloads fields i n j h))
+    run-end h order m = omega (arith, inv .same order m, ap (runBits (set order m)) (rest-end s rows values fields i n j h))
 
-    module _ (h : j < n) {f : Field} (ef : f ≡ fieldIn s places own parents payloads fields i n j) {b : Bool}
-        (eb : (own parents payloads fields : List ℕ) (n : ℕ) (order : EndiannessValue) (m : Arrays)
-        → b ≡ isBit (settingAt s places own parents payloads fields i n order m) f) where
-      is : (order : EndiannessValue) (m : Arrays) → b ≡ isBit (set order m) (annotatedAt s places own parents payloads fields i n j .field)
-      is order m = eb own parents payloads fields n order m ∙ ap (isBit (set order m)) ef
+    module _ (h : j < n) {f : Field} (ef : f ≡ fieldIn tables i n j) {b : Bool}
+        (eb : (values fields : List ℕ) (n : ℕ) (order : EndiannessValue) (m : Arrays)
+        → b ≡ isBit (settingAt (tablesOf s rows values fields) i n order m) f) where
+      is : (order : EndiannessValue) (m : Arrays) → b ≡ isBit (set order m) (annotatedAt tables i n j .field)
+      is order m = eb values fields n order m ∙ ap (isBit (set order m)) ef
 
-      step : (order : EndiannessValue) (m : Arrays) → runBits (set order m) (rest j) ≡ runBits (set order m) (annotatedAt s places own parents payloads fields i n j ∷ rest (j + 1))
-      step order m = ap (runBits (set order m)) (rest-step s places own parents payloads fields i n j h)
+      step : (order : EndiannessValue) (m : Arrays) → runBits (set order m) (rest j) ≡ runBits (set order m) (annotatedAt tables i n j ∷ rest (j + 1))
+      step order m = ap (runBits (set order m)) (rest-step s rows values fields i n j h)
 
       pub run-stop : b ≡ false → All sum
-      run-stop q order m = omega (arith, inv .same order m, step order m, run-no (set order m) (annotatedAt s places own parents payloads fields i n j) (rest (j + 1)) (sym (is order m) ∙ q))
+      run-stop q order m =
+          omega (arith, inv .same order m, step order m, run-no (set order m) (annotatedAt tables i n j) (rest (j + 1)) (sym (is order m) ∙ q))
 
-      module _ (q : b ≡ true) {z : Size} (ez : z ≡ annotateField s (rowsOf s places own parents payloads fields i n) (fieldsOf s places own parents payloads fields i n) f)
+      module _ (q : b ≡ true) {z : Size} (ez : z ≡ annotateField s (rowsOf tables i) (fieldsOf tables i n) f)
           {w : ℕ} (ew : w ≡ staticWidth z) where
-        width : w ≡ widthOf (annotatedAt s places own parents payloads fields i n j)
-        width = ew ∙ ap staticWidth (ez ∙ ap (annotateField s (rowsOf s places own parents payloads fields i n) (fieldsOf s places own parents payloads fields i n)) ef)
+        width : w ≡ widthOf (annotatedAt tables i n j)
+        width = ew ∙ ap staticWidth (ez ∙ ap (annotateField s (rowsOf tables i) (fieldsOf tables i n)) ef)
 
         pub run-turn : Summed (j + 1) (sum + w)
         run-turn = record {
@@ -91,17 +90,17 @@ module _ (s places own parents payloads fields : List ℕ) (i n k : ℕ) where
                 arith,
                 inv .same order m,
                 step order m,
-                run-bit (set order m) (annotatedAt s places own parents payloads fields i n j) (rest (j + 1)) (sym (is order m) ∙ q),
+                run-bit (set order m) (annotatedAt tables i n j) (rest (j + 1)) (sym (is order m) ∙ q),
                 width,
               );
         }
 
         -- the sum fits, as refusal 7 has seen
-        pub run-fits : k ≤ j → Fine s places own parents payloads fields i n → sum + w < 2 ^ 64
+        pub run-fits : k ≤ j → Fine tables i n → sum + w < 2 ^ 64
         run-fits l fine =
             omega (
               arith,
               run-turn .same EndiannessValue.LittleEndian Arrays.Lite,
               run-below (set EndiannessValue.LittleEndian Arrays.Lite) (rest k),
-              sum-fine s places own parents payloads fields i n fine k (omega arith),
+              sum-fine s rows values fields i n fine k (omega arith),
             )

@@ -1,5 +1,5 @@
 // Looking ahead over the widths: which fields gather in a chunk (`is_bitfield` of cxx.rs, without a condition), and the bits of those that follow one
-// another. The fields of the declaration with the index i are the n that the table has from 64 i on.
+// another. The fields of the declaration with the index i are the n whose places the table of fields has from 64 i on.
 use definitions::Cond;
 use definitions::Field;
 use definitions::Size;
@@ -10,17 +10,20 @@ ghost use Rattle.definitions.specs.FieldParser.{staticWidth, isBit};
 ghost use Rattle.definitions.specs.declared.Arrays.{Arrays};
 ghost use Rattle.definitions.specs.declared.EndiannessValue.{EndiannessValue};
 ghost use Rattle.stream.specs.Stream.{runBits};
+ghost use Rattle.tables.specs.Tables.{Tables, tablesOf};
 ghost use Rattle.emits.specs.Target.{settingAt, restAt, Fine};
 ghost use Rattle.runs.specs.Counted.{laterBits};
 
-// A bit field without a condition. No size is looked at, so any size tables will do.
-pub fn is_bit(rec: &[u8], places: &[usize], i: usize, f: Field) -> bool
-    ensures { λ r. ⌜ ((own parents payloads fields : List ℕ) (n : ℕ) (order : EndiannessValue) (m : Arrays) → r ≡ isBit (settingAt (now (rec .entry)) (now (places .entry)) own parents payloads fields i n order m) f) ⌝ }
+// A bit field without a condition. No field is looked up, so any values and places will do.
+pub fn is_bit(rec: &[u8], rows: &[u64], i: usize, f: Field) -> bool
+    ensures { λ r.
+        ⌜ ((values fields : List ℕ) (n : ℕ) (order : EndiannessValue) (m : Arrays)
+        → r ≡ isBit (settingAt (tablesOf (now (rec .entry)) (now (rows .entry)) values fields) i n order m) f) ⌝ }
 {
     let cond = f.cond;
     let desc = f.desc;
     match cond {
-        Cond::None => rows::is_bitfield(rec, places, i, desc),
+        Cond::None => rows::is_bitfield(rec, rows, i, desc),
         Cond::Some { id: _, value: _ } => false,
     }
 }
@@ -39,24 +42,23 @@ pub fn static_width(size: Size) -> u64
 // The bits of the bit fields from number k on, up to the next other field.
 fn run_bits(
     rec: &[u8],
-    places: &[usize],
-    own: &[u64],
-    parents: &[u64],
-    payloads: &[u64],
+    rows: &[u64],
+    values: &[u64],
     fields: &[usize],
     i: usize,
     n: usize,
     k: usize,
 ) -> u64
-    requires { ⌜ Fine (now rec) (now places) (now own) (now parents) (now payloads) (now fields) i n ⌝ }
-    ensures { λ r. ⌜ ((order : EndiannessValue) (m : Arrays) → r ≡ runBits (settingAt (now (rec .entry)) (now (places .entry)) (now (own .entry)) (now (parents .entry)) (now (payloads .entry)) (now (fields .entry)) i n order m) (restAt (now (rec .entry)) (now (places .entry)) (now (own .entry)) (now (parents .entry)) (now (payloads .entry)) (now (fields .entry)) i n k)) ⌝ }
+    requires { let t : Tables = tablesOf (now rec) (now rows) (now values) (now fields) in ⌜ Fine t i n ⌝ }
+    ensures { λ r. let t : Tables = tablesOf (now (rec .entry)) (now (rows .entry)) (now (values .entry)) (now (fields .entry)) in
+        ⌜ ((order : EndiannessValue) (m : Arrays) → r ≡ runBits (settingAt t i n order m) (restAt t i n k)) ⌝ }
 {
     let mut sum = 0;
     let mut j = k;
     while j < n {
-        let f = references::field_in(rec, fields, i, j);
-        if is_bit(rec, places, i, f) {
-            let size = annotate::field_size(rec, places, own, parents, payloads, fields, i, n, f);
+        let f = references::field_in(values, fields, i, j);
+        if is_bit(rec, rows, i, f) {
+            let size = annotate::field_size(rec, rows, values, fields, i, n, f);
             sum += static_width(size);
             j += 1;
         } else {
@@ -69,10 +71,8 @@ fn run_bits(
 // The bits behind field k that its check counts; the chunk comes to `sum` bits.
 pub fn later_bits(
     rec: &[u8],
-    places: &[usize],
-    own: &[u64],
-    parents: &[u64],
-    payloads: &[u64],
+    rows: &[u64],
+    values: &[u64],
     fields: &[usize],
     i: usize,
     n: usize,
@@ -80,8 +80,9 @@ pub fn later_bits(
     pending: bool,
     sum: u64,
 ) -> u64
-    requires { ⌜ (k < n) × Fine (now rec) (now places) (now own) (now parents) (now payloads) (now fields) i n ⌝ }
-    ensures { λ r. ⌜ ((order : EndiannessValue) (m : Arrays) → r ≡ laterBits pending sum (runBits (settingAt (now (rec .entry)) (now (places .entry)) (now (own .entry)) (now (parents .entry)) (now (payloads .entry)) (now (fields .entry)) i n order m) (restAt (now (rec .entry)) (now (places .entry)) (now (own .entry)) (now (parents .entry)) (now (payloads .entry)) (now (fields .entry)) i n (k + 1)))) ⌝ }
+    requires { let t : Tables = tablesOf (now rec) (now rows) (now values) (now fields) in ⌜ (k < n) × Fine t i n ⌝ }
+    ensures { λ r. let t : Tables = tablesOf (now (rec .entry)) (now (rows .entry)) (now (values .entry)) (now (fields .entry)) in
+        ⌜ ((order : EndiannessValue) (m : Arrays) → r ≡ laterBits pending sum (runBits (settingAt t i n order m) (restAt t i n (k + 1)))) ⌝ }
 {
     if pending {
         return 0;
@@ -89,5 +90,5 @@ pub fn later_bits(
     if sum % 8 != 0 {
         return 0;
     }
-    run_bits(rec, places, own, parents, payloads, fields, i, n, k + 1)
+    run_bits(rec, rows, values, fields, i, n, k + 1)
 }

@@ -4,17 +4,17 @@ use Prim.Native.Nat.{ℕ, _*_}
 use mathlib.Core.Bool.{Bool, true, false, _||_}
 use mathlib.Core.List.{List}
 use mathlib.Core.Path.{_≡_, refl, sym, ap, _∙_}
-use lib.ListN.{getD}
 use Rattle.definitions.specs.Bytes.{Text, any}
-use Rattle.definitions.specs.Sizes.{Row, Annotated, addSize, declSizeOf, payloadSizeOf, customSize, parentId, parentOf, fieldsSize, payloadsSize, annotateFields, annotateDecl}
+use Rattle.definitions.specs.Sizes.{Row, Annotated, addSize, declSizeOf, payloadSizeOf, customSize, parentId, parentOf}
+use Rattle.definitions.specs.Sizes.{fieldsSize, payloadsSize, annotateFields, annotateDecl}
 use Rattle.definitions.specs.Refusals.{largeSize, tooLarge, largeField, staticSum}
-use Rattle.definitions.specs.Tables.{declHere, fieldsFrom, declarationIn}
 use Rattle.definitions.specs.declared.Decl.{Decl}
 use Rattle.definitions.specs.declared.DeclDesc.{DeclDesc}
 use Rattle.definitions.specs.declared.Field.{Field}
 use Rattle.definitions.specs.declared.MaybeNumber.{MaybeNumber}
 use Rattle.definitions.specs.declared.MaybePart.{MaybePart}
 use Rattle.definitions.specs.declared.Size.{Size}
+use Rattle.tables.specs.Tables.{declHere, countHere, fieldsFrom, declarationIn}
 use Rattle.bits.specs.Capped.{capped}
 use Rattle.bits.proofs.Caps.{zero-capped, cap-large, capped-large, capped-again, capped-sum, capped-sums}
 use Rattle.annotate.specs.Sums.{sumFields, noFields}
@@ -130,7 +130,8 @@ module _ (s : Text) (rows : List Row) (d : Decl) (fs : List Field) where
   entry-sized {t} et {p} ep {x} ex {r} er =
       er ∙ ap (λ (x : Size). rowSizes (d .desc) t x) (ex ∙ ap (parentOf s rows) ep)
       ∙ same-row own-is payload-is
-      (ap (λ (l : Bool). l || largeSizes (capped (declSizeOf (d .desc) (t .sum))) (capped above) (payloadSizeOf (d .desc) (t .payload)) || tooLarge (t .bits)) large-is
+      (ap (λ (l : Bool). l || largeSizes (capped (declSizeOf (d .desc) (t .sum))) (capped above) (payloadSizeOf (d .desc) (t .payload)) || tooLarge (t .bits))
+      large-is
       ∙ ap (λ (z : Size). any largeField xs || largeSizes z (capped above) (payloadSizeOf (d .desc) (t .payload)) || tooLarge (t .bits)) own-is
       ∙ ap (λ (z : Size). any largeField xs || largeSizes (capped own) (capped above) z || tooLarge (t .bits)) payload-is
       ∙ ap (λ (l : Bool). any largeField xs || l || tooLarge (t .bits)) (sizes-capped own above payload)
@@ -153,12 +154,13 @@ module _ (s : Text) (rows : List Row) (d : Decl) (fs : List Field) where
       bits-are = ap (λ (t : FieldSums). tooLarge (t .bits)) et ∙ ap tooLarge (sums-bits xs) ∙ cap-large (staticSum xs)
 
       same-row : {z y : Size} {l m : Bool} {x : Size} → z ≡ capped own → y ≡ capped payload → l ≡ m
-          → _≡_ {A = RowSizes} (record { large = l; own = z; parent = x; payload = y }) (record { large = m; own = capped own; parent = x; payload = capped payload })
+          → _≡_ {A = RowSizes} (record { large = l; own = z; parent = x; payload = y })
+          (record { large = m; own = capped own; parent = x; payload = capped payload })
       same-row ez ey el = rw (ez, ey, el)
 
-pub entry-at : (s : Text) (rows : List Row) (places fields counts : List ℕ) (i : ℕ) {n : ℕ} → n ≡ getD counts i 0 → {at : ℕ} → at ≡ getD places i 0
-    → {d : Decl} → d ≡ declHere s at → {r : RowSizes} → r ≡ entrySizes (annotateDecl s rows (record { decl = d; fields = fieldsFrom s fields (i * 64) n }))
-    → r ≡ entrySizes (annotateDecl s rows (declarationIn s places fields counts i))
-entry-at s rows places fields counts i {n} en {at} ea {d} ed {r} er =
-    er ∙ ap (λ (n : ℕ). entrySizes (annotateDecl s rows (record { decl = d; fields = fieldsFrom s fields (i * 64) n }))) en
-    ∙ ap (λ (d : Decl). entrySizes (annotateDecl s rows (record { decl = d; fields = fieldsFrom s fields (i * 64) (getD counts i 0) }))) (ed ∙ ap (declHere s) ea)
+pub entry-at : (s : Text) (earlier : List Row) (rows values fields : List ℕ) (i : ℕ) {n : ℕ} → n ≡ countHere rows i → {d : Decl} → d ≡ declHere rows i
+    → {r : RowSizes} → r ≡ entrySizes (annotateDecl s earlier (record { decl = d; fields = fieldsFrom values fields (i * 64) n }))
+    → r ≡ entrySizes (annotateDecl s earlier (declarationIn rows values fields i))
+entry-at s earlier rows values fields i en {d} ed er =
+    er ∙ ap (λ (n : ℕ). entrySizes (annotateDecl s earlier (record { decl = d; fields = fieldsFrom values fields (i * 64) n }))) en
+    ∙ ap (λ (d : Decl). entrySizes (annotateDecl s earlier (record { decl = d; fields = fieldsFrom values fields (i * 64) (countHere rows i) }))) ed

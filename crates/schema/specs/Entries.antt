@@ -1,17 +1,17 @@
--- What the code keeps of an entry of `Schema`, and the entries that its tables give back, for any tables.
+-- What the code keeps of an entry of `Schema`, the entries that the tables of a record give back, for any tables, and the table that the pass leaves.
 -- Assumes nothing.
-use mathlib.Core.Bool.{Bool, false, _||_}
+use mathlib.Core.Bool.{Bool, true, false, _||_}
 use mathlib.Core.List.{List, [], _∷_}
 use mathlib.Core.Path.{_≡_}
 use Prim.Native.Nat.{ℕ, zero, suc, _+_}
-use lib.ListN.{set}
 use Rattle.definitions.specs.Bytes.{Text}
 use Rattle.definitions.specs.Record.{Declaration}
-use Rattle.definitions.specs.Sizes.{Schema, Entry, Row, addSize, declSizeOf, payloadSizeOf, annotateFields, newSchema}
+use Rattle.definitions.specs.Sizes.{Schema, Entry, Row, addSize, declSizeOf, payloadSizeOf, annotateFields, annotateDecl, newSchema}
 use Rattle.definitions.specs.Refusals.{largeSize, tooLarge, largeEntry, large}
-use Rattle.definitions.specs.Tables.{encode, declarationIn, rowIn, rowsFrom}
+use Rattle.definitions.specs.Tables.{encode}
 use Rattle.definitions.specs.declared.DeclDesc.{DeclDesc}
 use Rattle.definitions.specs.declared.Size.{Size}
+use Rattle.tables.specs.Tables.{declarationIn, declarationsFrom, rowIn, rowsFrom, withSizes}
 use Rattle.bits.specs.Capped.{capped}
 use Rattle.annotate.specs.declared.FieldSums.{FieldSums}
 use Rattle.schema.specs.declared.RowSizes.{RowSizes}
@@ -43,35 +43,42 @@ entrySizes e =
       payload = capped (e .row .payloadSize);
     }
 
--- ---- the tables
+-- ---- the entries that the tables give
 
--- the entry with the index i: the rows before, its declaration, its fields with their sizes, its row
-abbrev pub entryWith : Text → List ℕ → List ℕ → List ℕ → ℕ → List Row → Row → Entry
-entryWith s places fields counts i earlier row =
-    record {
-      earlier = earlier;
-      declaration = declarationIn s places fields counts i;
-      fields =
-          annotateFields s earlier (declarationIn s places fields counts i .fields) (declarationIn s places fields counts i .fields);
-      row = row;
-    }
+-- the entry of a declaration: the rows before, its fields with their sizes, its row
+abbrev pub entryWith : Text → Declaration → List Row → Row → Entry
+entryWith s d earlier row = record { earlier = earlier; declaration = d; fields = annotateFields s earlier (d .fields) (d .fields); row = row }
 
-abbrev pub entryIn : Text → List ℕ → List ℕ → List ℕ → List ℕ → List ℕ → List ℕ → ℕ → Entry
-entryIn s places fields counts own parents payloads i =
-    entryWith s places fields counts i (rowsFrom s places own parents payloads 0 i) (rowIn s places own parents payloads i)
+-- the entry with the index i
+abbrev pub entryIn : Text → List ℕ → List ℕ → List ℕ → ℕ → Entry
+entryIn s rows values fields i = entryWith s (declarationIn rows values fields i) (rowsFrom rows 0 i) (rowIn rows i)
 
 -- m of them, from i on
-unfoldable pub entriesFrom : Text → List ℕ → List ℕ → List ℕ → List ℕ → List ℕ → List ℕ → ℕ → ℕ → Schema
-entriesFrom s places fields counts own parents payloads i zero = []
-entriesFrom s places fields counts own parents payloads i (suc m) =
-    entryIn s places fields counts own parents payloads i ∷ entriesFrom s places fields counts own parents payloads (i + 1) m
+unfoldable pub entriesFrom : Text → List ℕ → List ℕ → List ℕ → ℕ → ℕ → Schema
+entriesFrom s rows values fields i zero = []
+entriesFrom s rows values fields i (suc m) = entryIn s rows values fields i ∷ entriesFrom s rows values fields (i + 1) m
 
-pub record Stored (own parents payloads : List ℕ) (i : ℕ) (row : RowSizes) (own′ parents′ payloads′ : List ℕ) : Type 0 where
-  pub own-is : own′ ≡ set own i (encode (row .own))
-  pub parents-is : parents′ ≡ set parents i (encode (row .parent))
-  pub payloads-is : payloads′ ≡ set payloads i (encode (row .payload))
+-- ---- the pass
 
--- the answer is that of 7 over the whole record, and where 7 is not met the tables give all of `Schema`, entry by entry
-pub record Sized (s : Text) (ds : List Declaration) (entries : Schema) (r : Bool) : Type 0 where
-  pub answer : r ≡ large (newSchema s ds)
-  pub tables : large (newSchema s ds) ≡ false → entries ≡ newSchema s ds
+-- the three sizes of row i written
+abbrev pub putRow : List ℕ → ℕ → RowSizes → List ℕ
+putRow rows i row = withSizes rows i (encode (row .own)) (encode (row .parent)) (encode (row .payload))
+
+-- the entry that the pass makes of the declaration with the index i
+abbrev pub nextEntry : Text → List ℕ → List ℕ → List ℕ → ℕ → Entry
+nextEntry s rows values fields i = annotateDecl s (rowsFrom rows 0 i) (declarationIn rows values fields i)
+
+-- the table that it leaves, of m declarations from i on: the sizes of those before the first that is over the limit are set
+unfoldable pub sizedRows : Text → List ℕ → List ℕ → List ℕ → ℕ → ℕ → List ℕ
+sizedRows s rows values fields i zero = rows
+sizedRows s rows values fields i (suc m) = elim (largeEntry (nextEntry s rows values fields i)) [
+  | true ↦ rows
+  | false ↦ sizedRows s (putRow rows i (entrySizes (nextEntry s rows values fields i))) values fields (i + 1) m
+]
+
+-- the answer is that of 7 over the whole record; where 7 is not met the tables give all of `Schema`, entry by entry; and the table that is left
+pub record Sized (s : Text) (rows values fields : List ℕ) (n : ℕ) (rows′ : List ℕ) (r : Bool) : Type 0 where
+  pub answer : r ≡ large (newSchema s (declarationsFrom rows values fields 0 n))
+  pub tables : large (newSchema s (declarationsFrom rows values fields 0 n)) ≡ false
+      → entriesFrom s rows′ values fields 0 n ≡ newSchema s (declarationsFrom rows values fields 0 n)
+  pub left : rows′ ≡ sizedRows s rows values fields 0 n

@@ -1,5 +1,5 @@
-// `Schema::new` (analyzer.rs): the tables `decl_size`, `parent_size` and `payload_size`, indexed by declaration order, and refusal 7 on the way. The first
-// entry over the limit ends the pass.
+// `Schema::new` (analyzer.rs): `decl_size`, `parent_size` and `payload_size` of each declaration, put into its row of the table, and refusal 7 on the way.
+// The first entry over the limit ends the pass.
 
 use annotate::FieldSums;
 use definitions::Decl;
@@ -9,12 +9,12 @@ use definitions::MaybePart;
 use definitions::Size;
 ghost use mathlib.Core.Path.{_≡_};
 ghost use mathlib.Core.Bool.{_||_};
-ghost use Prim.Native.Nat.{_*_, _≤_};
+ghost use Prim.Native.Nat.{_+_, _*_, _≤_, _<_};
 ghost use lib.ListN.{length};
 ghost use Rattle.definitions.specs.Sizes.{declSizeOf, payloadSizeOf, parentId, annotateDecl};
 ghost use Rattle.definitions.specs.Refusals.{tooLarge};
-ghost use Rattle.definitions.specs.Tables.{rowsFrom, fieldsFrom, declarationIn, declarationsFrom};
-ghost use Rattle.schema.specs.Entries.{largeSizes, rowSizes, entrySizes, entriesFrom, Stored, Sized};
+ghost use Rattle.tables.specs.Tables.{Tables, tablesOf, rowsOf, fieldsOf, declarationIn};
+ghost use Rattle.schema.specs.Entries.{largeSizes, rowSizes, entrySizes, putRow, Sized};
 
 // ---- a row
 
@@ -126,78 +126,58 @@ fn row_sizes(desc: DeclDesc, sums: FieldSums, above: Size) -> RowSizes
 // `annotate_decl` of a declaration with n fields, after i others.
 fn annotate_decl(
     rec: &[u8],
-    places: &[usize],
-    own: &[u64],
-    parents: &[u64],
-    payloads: &[u64],
+    rows: &[u64],
+    values: &[u64],
     fields: &[usize],
     i: usize,
     n: usize,
     d: Decl,
 ) -> RowSizes
-    ensures { λ r. ⌜ r ≡ entrySizes (annotateDecl (now (rec .entry)) (rowsFrom (now (rec .entry)) (now (places .entry)) (now (own .entry)) (now (parents .entry)) (now (payloads .entry)) 0 i) (record { decl = d; fields = fieldsFrom (now (rec .entry)) (now (fields .entry)) (i * 64) n })) ⌝ }
+    ensures { λ r. let t : Tables = tablesOf (now (rec .entry)) (now (rows .entry)) (now (values .entry)) (now (fields .entry)) in
+        ⌜ r ≡ entrySizes (annotateDecl (t .source) (rowsOf t i) (record { decl = d; fields = fieldsOf t i n })) ⌝ }
 {
     let desc = d.desc;
-    let sums = annotate::sum_fields(rec, places, own, parents, payloads, fields, i, n);
-    let above = rows::parent_of(rec, places, own, parents, payloads, i, parent_id(desc));
+    let sums = annotate::sum_fields(rec, rows, values, fields, i, n);
+    let above = rows::parent_of(rec, rows, i, parent_id(desc));
     row_sizes(desc, sums, above)
 }
 
 // The same of the declaration with the index i.
-fn row_at(
-    rec: &[u8],
-    places: &[usize],
-    own: &[u64],
-    parents: &[u64],
-    payloads: &[u64],
-    fields: &[usize],
-    counts: &[usize],
-    i: usize,
-) -> RowSizes
-    ensures { λ r. ⌜ r ≡ entrySizes (annotateDecl (now (rec .entry)) (rowsFrom (now (rec .entry)) (now (places .entry)) (now (own .entry)) (now (parents .entry)) (now (payloads .entry)) 0 i) (declarationIn (now (rec .entry)) (now (places .entry)) (now (fields .entry)) (now (counts .entry)) i)) ⌝ }
+fn row_at(rec: &[u8], rows: &[u64], values: &[u64], fields: &[usize], i: usize) -> RowSizes
+    ensures { λ r. let t : Tables = tablesOf (now (rec .entry)) (now (rows .entry)) (now (values .entry)) (now (fields .entry)) in
+        ⌜ r ≡ entrySizes (annotateDecl (t .source) (rowsOf t i) (declarationIn (t .rows) (t .values) (t .fields) i)) ⌝ }
 {
-    let n = places::get(counts, i);
-    let at = places::get(places, i);
-    let d = places::decl_here(rec, at);
-    annotate_decl(rec, places, own, parents, payloads, fields, i, n, d)
+    let n = tables::count_here(rows, i);
+    let d = tables::decl_here(rows, i);
+    annotate_decl(rec, rows, values, fields, i, n, d)
 }
 
-// ---- the tables
+// ---- the table
 
-fn put_row(own: &mut [u64], parents: &mut [u64], payloads: &mut [u64], i: usize, row: RowSizes)
-    ensures { λ _. ⌜ Stored (now (own .entry)) (now (parents .entry)) (now (payloads .entry)) i row (now (own .exit)) (now (parents .exit)) (now (payloads .exit)) ⌝ }
+fn put_row(rows: &mut [u64], i: usize, row: RowSizes)
+    requires { ⌜ i * 11 + 10 < length (now rows) ⌝ }
+    ensures { λ _. ⌜ now (rows .exit) ≡ putRow (now (rows .entry)) i row ⌝ }
 {
     let a = row.own;
     let b = row.parent;
     let c = row.payload;
-    bits::put_size(own, i, a);
-    bits::put_size(parents, i, b);
-    bits::put_size(payloads, i, c);
+    bits::put_size(rows, i * 11 + 8, a);
+    bits::put_size(rows, i * 11 + 9, b);
+    bits::put_size(rows, i * 11 + 10, c);
 }
 
-// The tables of the n declarations; true where 7 is met.
-pub fn schema(
-    rec: &[u8],
-    places: &[usize],
-    fields: &[usize],
-    counts: &[usize],
-    n: usize,
-    own: &mut [u64],
-    parents: &mut [u64],
-    payloads: &mut [u64],
-) -> bool
-    requires { ⌜ n ≤ length (now own) ⌝ }
-    requires { ⌜ n ≤ length (now parents) ⌝ }
-    requires { ⌜ n ≤ length (now payloads) ⌝ }
-    ensures { λ r. ⌜ Sized (now (rec .entry)) (declarationsFrom (now (rec .entry)) (now (places .entry)) (now (fields .entry)) (now (counts .entry)) 0 n) (entriesFrom (now (rec .entry)) (now (places .entry)) (now (fields .entry)) (now (counts .entry)) (now (own .exit)) (now (parents .exit)) (now (payloads .exit)) 0 n) r ⌝ }
+// The sizes of the n declarations; true where 7 is met.
+pub fn schema(rec: &[u8], rows: &mut [u64], values: &[u64], fields: &[usize], n: usize) -> bool
+    requires { ⌜ n * 11 ≤ length (now rows) ⌝ }
+    ensures { λ r. ⌜ Sized (now (rec .entry)) (now (rows .entry)) (now (values .entry)) (now (fields .entry)) n (now (rows .exit)) r ⌝ }
 {
     let mut i = 0;
     while i < n {
-        let row = row_at(rec, places, own, parents, payloads, fields, counts, i);
+        let row = row_at(rec, rows, values, fields, i);
         if row.large {
             return true;
         }
-        put_row(own, parents, payloads, i, row);
+        put_row(rows, i, row);
         i += 1;
     }
     false

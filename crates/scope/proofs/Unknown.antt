@@ -13,7 +13,6 @@ use Rattle.definitions.specs.Bytes.{Text, any}
 use Rattle.definitions.specs.Record.{Declaration, onFound}
 use Rattle.definitions.specs.Sizes.{parentId}
 use Rattle.definitions.specs.Refusals.{find, isFrame, isEnumDesc, isThere, lacks, badName, badType, badNames, unknownFrom, unknownName}
-use Rattle.definitions.specs.Tables.{fieldHere, declHere, fieldsFrom, declarationIn, declarationsFrom}
 use Rattle.definitions.specs.declared.Part.{Part}
 use Rattle.definitions.specs.declared.MaybePart.{MaybePart}
 use Rattle.definitions.specs.declared.FieldDesc.{FieldDesc}
@@ -21,10 +20,11 @@ use Rattle.definitions.specs.declared.DeclDesc.{DeclDesc}
 use Rattle.definitions.specs.declared.Field.{Field}
 use Rattle.definitions.specs.declared.Decl.{Decl}
 use Rattle.definitions.specs.declared.Found.{Found}
-use Rattle.places.specs.Places.{which, declsFrom}
-use Rattle.places.proofs.Search.{find-which}
-use Rattle.places.proofs.Walks.{any-fields-start, any-fields-end, any-fields-found, any-fields-turn}
-use Rattle.scope.specs.Scopes.{bare, wants, badFieldType}
+use Rattle.tables.specs.Tables.{fieldHere, declHere, countHere, fieldsFrom, declarationIn, declarationsFrom, which, declsFrom}
+use Rattle.tables.proofs.Search.{find-which}
+use Rattle.tables.proofs.Walks.{any-fields-start, any-fields-end, any-fields-found, any-fields-turn}
+use Rattle.ranges.specs.Ranges.{bare}
+use Rattle.scope.specs.Scopes.{wants, badFieldType}
 use Rattle.scope.specs.declared.Role.{Role}
 
 -- ---- what a kind computes to
@@ -34,20 +34,20 @@ kind-type s earlier e h = h ∙ ap (badType s earlier) (sym e)
 
 -- ---- the look-up of a name
 
-module _ (s p : List ℕ) (n : ℕ) (role : Role) (name : Part) {f : Found} (ef : f ≡ which s name 0 (declsFrom s p 0 n)) where
-  looked : lacks (wants role) (find s (bare s p n) name) ≡ lacks (wants role) (onFound f none λ j. some (declHere s (getD p j 0) .desc))
+module _ (s rows : List ℕ) (n : ℕ) (role : Role) (name : Part) {f : Found} (ef : f ≡ which s name 0 (declsFrom rows 0 n)) where
+  looked : lacks (wants role) (find s (bare rows n) name) ≡ lacks (wants role) (onFound f none λ j. some (declHere rows j .desc))
   looked =
-      ap (lacks (wants role)) (find-which s p [] [] name 0 n)
-      ∙ ap (λ (g : Found). lacks (wants role) (onFound g none λ j. some (declHere s (getD p j 0) .desc))) (sym ef)
+      ap (lacks (wants role)) (find-which s rows [] [] name 0 n)
+      ∙ ap (λ (g : Found). lacks (wants role) (onFound g none λ j. some (declHere rows j .desc))) (sym ef)
 
-  pub lacks-none : f ≡ Found.Nothing → true ≡ lacks (wants role) (find s (bare s p n) name)
-  lacks-none h = sym (looked ∙ ap (λ (g : Found). lacks (wants role) (onFound g none λ j. some (declHere s (getD p j 0) .desc))) h)
+  pub lacks-none : f ≡ Found.Nothing → true ≡ lacks (wants role) (find s (bare rows n) name)
+  lacks-none h = sym (looked ∙ ap (λ (g : Found). lacks (wants role) (onFound g none λ j. some (declHere rows j .desc))) h)
 
-  pub lacks-role : {i : ℕ} → f ≡ Found.At i → {at : ℕ} → at ≡ getD p i 0 → {d : Decl} → d ≡ declHere s at → {b : Bool} → b ≡ wants role (d .desc)
-      → not b ≡ lacks (wants role) (find s (bare s p n) name)
-  lacks-role h ea ed eb =
-      ap not (eb ∙ ap (λ (x : Decl). wants role (x .desc)) (ed ∙ ap (declHere s) ea))
-      ∙ sym (looked ∙ ap (λ (g : Found). lacks (wants role) (onFound g none λ j. some (declHere s (getD p j 0) .desc))) h)
+  pub lacks-role : {i : ℕ} → f ≡ Found.At i → {d : Decl} → d ≡ declHere rows i → {b : Bool} → b ≡ wants role (d .desc)
+      → not b ≡ lacks (wants role) (find s (bare rows n) name)
+  lacks-role h ed eb =
+      ap not (eb ∙ ap (λ (x : Decl). wants role (x .desc)) ed)
+      ∙ sym (looked ∙ ap (λ (g : Found). lacks (wants role) (onFound g none λ j. some (declHere rows j .desc))) h)
 
 module _ (s : Text) (earlier : List Declaration) (role : Role) {m : MaybePart} where
   pub name-none : m ≡ MaybePart.None → false ≡ badName s earlier (wants role) m
@@ -58,40 +58,41 @@ module _ (s : Text) (earlier : List Declaration) (role : Role) {m : MaybePart} w
 
 -- ---- the fields of a declaration
 
-module _ (s : List ℕ) (earlier : List Declaration) (fields : List ℕ) (j m k : ℕ) {e : Bool}
-    (inv : any (badFieldType s earlier) (fieldsFrom s fields (j + k) (m - k)) ≡ e) where
+module _ (s : List ℕ) (earlier : List Declaration) (values fields : List ℕ) (j m k : ℕ) {e : Bool}
+    (inv : any (badFieldType s earlier) (fieldsFrom values fields (j + k) (m - k)) ≡ e) where
   pub type-end : m ≤ k → false ≡ e
-  type-end h = any-fields-end (badFieldType s earlier) s fields j m k inv h
+  type-end h = any-fields-end (badFieldType s earlier) values fields j m k inv h
 
-  module _ (h : k < m) {at : ℕ} (ea : at ≡ getD fields (j + k) 0) {f : Field} (ef : f ≡ fieldHere s at) {b : Bool} (eb : b ≡ badType s earlier (f .desc)) where
-    tested : badFieldType s earlier (fieldHere s (getD fields (j + k) 0)) ≡ b
-    tested = sym (eb ∙ ap (badFieldType s earlier) (ef ∙ ap (fieldHere s) ea))
+  module _ (h : k < m) {at : ℕ} (ea : at ≡ getD fields (j + k) 0) {f : Field} (ef : f ≡ fieldHere values at) {b : Bool}
+      (eb : b ≡ badType s earlier (f .desc)) where
+    tested : badFieldType s earlier (fieldHere values (getD fields (j + k) 0)) ≡ b
+    tested = sym (eb ∙ ap (badFieldType s earlier) (ef ∙ ap (fieldHere values) ea))
 
     pub type-found : b ≡ true → true ≡ e
-    type-found hb = any-fields-found (badFieldType s earlier) s fields j m k inv h (tested ∙ hb)
+    type-found hb = any-fields-found (badFieldType s earlier) values fields j m k inv h (tested ∙ hb)
 
-    pub type-turn : b ≡ false → any (badFieldType s earlier) (fieldsFrom s fields (j + (k + 1)) (m - (k + 1))) ≡ e
-    type-turn hb = any-fields-turn (badFieldType s earlier) s fields j m k inv h (tested ∙ hb)
+    pub type-turn : b ≡ false → any (badFieldType s earlier) (fieldsFrom values fields (j + (k + 1)) (m - (k + 1))) ≡ e
+    type-turn hb = any-fields-turn (badFieldType s earlier) values fields j m k inv h (tested ∙ hb)
 
-pub type-start : (s : List ℕ) (earlier : List Declaration) (fields : List ℕ) (j m : ℕ)
-    → any (badFieldType s earlier) (fieldsFrom s fields (j + 0) (m - 0)) ≡ any (badFieldType s earlier) (fieldsFrom s fields j m)
-type-start s earlier fields j m = any-fields-start (badFieldType s earlier) s fields j m
+pub type-start : (s : List ℕ) (earlier : List Declaration) (values fields : List ℕ) (j m : ℕ)
+    → any (badFieldType s earlier) (fieldsFrom values fields (j + 0) (m - 0)) ≡ any (badFieldType s earlier) (fieldsFrom values fields j m)
+type-start s earlier values fields j m = any-fields-start (badFieldType s earlier) values fields j m
 
 -- ---- a declaration
 
-module _ (s p f c : List ℕ) (earlier : List Declaration) (i : ℕ) {at : ℕ} (ea : at ≡ getD p i 0) {d : Decl} (ed : d ≡ declHere s at)
+module _ (s rows values fields : List ℕ) (earlier : List Declaration) (i : ℕ) {d : Decl} (ed : d ≡ declHere rows i)
     {m : MaybePart} (em : m ≡ parentId (d .desc)) {b : Bool} (eb : b ≡ badName s earlier isFrame m) where
-  parent-tested : badName s earlier isFrame (parentId (declHere s (getD p i 0) .desc)) ≡ b
-  parent-tested = sym (eb ∙ ap (badName s earlier isFrame) (em ∙ ap (λ (x : Decl). parentId (x .desc)) (ed ∙ ap (declHere s) ea)))
+  parent-tested : badName s earlier isFrame (parentId (declHere rows i .desc)) ≡ b
+  parent-tested = sym (eb ∙ ap (badName s earlier isFrame) (em ∙ ap (λ (x : Decl). parentId (x .desc)) ed))
 
-  pub names-parent : b ≡ true → true ≡ badNames s earlier (declarationIn s p f c i)
-  names-parent h = sym (ap (λ (x : Bool). x || any (badFieldType s earlier) (fieldsFrom s f (i * 64) (getD c i 0))) (parent-tested ∙ h))
+  pub names-parent : b ≡ true → true ≡ badNames s earlier (declarationIn rows values fields i)
+  names-parent h = sym (ap (λ (x : Bool). x || any (badFieldType s earlier) (fieldsFrom values fields (i * 64) (countHere rows i))) (parent-tested ∙ h))
 
-  pub names-fields : b ≡ false → {n : ℕ} → n ≡ getD c i 0 → {r : Bool} → r ≡ any (badFieldType s earlier) (fieldsFrom s f (i * 64) n)
-      → r ≡ badNames s earlier (declarationIn s p f c i)
+  pub names-fields : b ≡ false → {n : ℕ} → n ≡ countHere rows i → {r : Bool} → r ≡ any (badFieldType s earlier) (fieldsFrom values fields (i * 64) n)
+      → r ≡ badNames s earlier (declarationIn rows values fields i)
   names-fields h en er =
-      er ∙ ap (λ (k : ℕ). any (badFieldType s earlier) (fieldsFrom s f (i * 64) k)) en
-      ∙ sym (ap (λ (x : Bool). x || any (badFieldType s earlier) (fieldsFrom s f (i * 64) (getD c i 0))) (parent-tested ∙ h))
+      er ∙ ap (λ (k : ℕ). any (badFieldType s earlier) (fieldsFrom values fields (i * 64) k)) en
+      ∙ sym (ap (λ (x : Bool). x || any (badFieldType s earlier) (fieldsFrom values fields (i * 64) (countHere rows i))) (parent-tested ∙ h))
 
 -- ---- declarations that give the same look-ups
 
@@ -123,50 +124,57 @@ module _ (s : Text) (a b : List Declaration) (same : (name : Part) → find s a 
   names-like : (d : Declaration) → badNames s a d ≡ badNames s b d
   names-like d = rw (name-like isFrame (parentId (d .decl .desc)), types-like (d .fields))
 
-bare-names : (s p f c : List ℕ) (i : ℕ) (d : Declaration) → badNames s (declarationsFrom s p f c 0 i) d ≡ badNames s (bare s p i) d
-bare-names s p f c i d =
-    names-like s (declarationsFrom s p f c 0 i) (bare s p i) (λ name. find-which s p f c name 0 i ∙ sym (find-which s p [] [] name 0 i)) d
+bare-names : (s rows values fields : List ℕ) (i : ℕ) (d : Declaration) → badNames s (declarationsFrom rows values fields 0 i) d ≡ badNames s (bare rows i) d
+bare-names s rows values fields i d =
+    names-like s (declarationsFrom rows values fields 0 i) (bare rows i)
+    (λ name. find-which s rows values fields name 0 i ∙ sym (find-which s rows [] [] name 0 i)) d
 
 -- ---- each declaration against those before it
 
-one-more : (s p f c : List ℕ) (i n : ℕ) → declarationsFrom s p f c i n ++ (declarationIn s p f c (i + n) ∷ []) ≡ declarationsFrom s p f c i (suc n)
+one-more : (rows values fields : List ℕ) (i n : ℕ)
+    → declarationsFrom rows values fields i n ++ (declarationIn rows values fields (i + n) ∷ []) ≡ declarationsFrom rows values fields i (suc n)
 unfolding declarationsFrom
-one-more s p f c i zero = ap (λ (k : ℕ). declarationIn s p f c k ∷ []) (let z : i + 0 ≡ i = omega arith in z)
-one-more s p f c i (suc n) =
-    ap (λ (l : List Declaration). declarationIn s p f c i ∷ l)
-    (ap (λ (k : ℕ). declarationsFrom s p f c (i + 1) n ++ (declarationIn s p f c k ∷ [])) (let z : i + suc n ≡ i + 1 + n = omega arith in z) ∙ one-more s p f c (i + 1) n)
+one-more rows values fields i zero = ap (λ (k : ℕ). declarationIn rows values fields k ∷ []) (let z : i + 0 ≡ i = omega arith in z)
+one-more rows values fields i (suc n) =
+    ap (λ (l : List Declaration). declarationIn rows values fields i ∷ l)
+    (ap (λ (k : ℕ). declarationsFrom rows values fields (i + 1) n ++ (declarationIn rows values fields k ∷ []))
+    (let z : i + suc n ≡ i + 1 + n = omega arith in z) ∙ one-more rows values fields (i + 1) n)
 
-pub unknown-start : (s p f c : List ℕ) (n : ℕ)
-    → unknownFrom s (declarationsFrom s p f c 0 0) (declarationsFrom s p f c 0 (n - 0)) ≡ unknownName s (declarationsFrom s p f c 0 n)
+pub unknown-start : (s rows values fields : List ℕ) (n : ℕ)
+    → unknownFrom s (declarationsFrom rows values fields 0 0) (declarationsFrom rows values fields 0 (n - 0))
+    ≡ unknownName s (declarationsFrom rows values fields 0 n)
 unfolding declarationsFrom
-unknown-start s p f c n = rw sub-zero
+unknown-start s rows values fields n = rw sub-zero
 
-module _ (s p f c : List ℕ) (n i : ℕ) {e : Bool} (inv : unknownFrom s (declarationsFrom s p f c 0 i) (declarationsFrom s p f c i (n - i)) ≡ e) where
+module _ (s rows values fields : List ℕ) (n i : ℕ) {e : Bool}
+    (inv : unknownFrom s (declarationsFrom rows values fields 0 i) (declarationsFrom rows values fields i (n - i)) ≡ e) where
   pub unknown-end : n ≤ i → false ≡ e
   unfolding unknownFrom declarationsFrom
   unknown-end h = rw (let z : n - i ≡ 0 = omega arith in z, declarationsFrom, unknownFrom) at inv
 
-  module _ (h : i < n) {b : Bool} (eb : b ≡ badNames s (bare s p i) (declarationIn s p f c i)) where
+  module _ (h : i < n) {b : Bool} (eb : b ≡ badNames s (bare rows i) (declarationIn rows values fields i)) where
     next : Bool
-    next = unknownFrom s (declarationsFrom s p f c 0 (i + 1)) (declarationsFrom s p f c (i + 1) (n - (i + 1)))
+    next = unknownFrom s (declarationsFrom rows values fields 0 (i + 1)) (declarationsFrom rows values fields (i + 1) (n - (i + 1)))
 
-    snoc : declarationsFrom s p f c 0 i ++ (declarationIn s p f c i ∷ []) ≡ declarationsFrom s p f c 0 (i + 1)
+    snoc : declarationsFrom rows values fields 0 i ++ (declarationIn rows values fields i ∷ []) ≡ declarationsFrom rows values fields 0 (i + 1)
     snoc =
-        ap (λ (k : ℕ). declarationsFrom s p f c 0 i ++ (declarationIn s p f c k ∷ [])) (sym (zero-add i))
-        ∙ one-more s p f c 0 i
-        ∙ ap (declarationsFrom s p f c 0) (sym (add-one i))
+        ap (λ (k : ℕ). declarationsFrom rows values fields 0 i ++ (declarationIn rows values fields k ∷ [])) (sym (zero-add i))
+        ∙ one-more rows values fields 0 i
+        ∙ ap (declarationsFrom rows values fields 0) (sym (add-one i))
 
     opened : b || next ≡ e
     unfolding unknownFrom declarationsFrom next
     opened =
-        ap (λ (x : Bool). x || next) (eb ∙ sym (bare-names s p f c i (declarationIn s p f c i)))
-        ∙ ap (λ (l : List Declaration). badNames s (declarationsFrom s p f c 0 i) (declarationIn s p f c i) || unknownFrom s l (declarationsFrom s p f c (i + 1) (n - (i + 1)))) (sym snoc)
-        ∙ sym (ap (λ (m : ℕ). unknownFrom s (declarationsFrom s p f c 0 i) (declarationsFrom s p f c i m)) (let z : n - i ≡ suc (n - (i + 1)) = omega arith in z))
+        ap (λ (x : Bool). x || next) (eb ∙ sym (bare-names s rows values fields i (declarationIn rows values fields i)))
+        ∙ ap (λ (l : List Declaration). badNames s (declarationsFrom rows values fields 0 i) (declarationIn rows values fields i)
+        || unknownFrom s l (declarationsFrom rows values fields (i + 1) (n - (i + 1)))) (sym snoc)
+        ∙ sym (ap (λ (m : ℕ). unknownFrom s (declarationsFrom rows values fields 0 i) (declarationsFrom rows values fields i m))
+        (let z : n - i ≡ suc (n - (i + 1)) = omega arith in z))
         ∙ inv
 
     pub unknown-found : b ≡ true → true ≡ e
     unknown-found hb = sym (ap (λ (x : Bool). x || next) hb) ∙ opened
 
-    pub unknown-turn : b ≡ false → unknownFrom s (declarationsFrom s p f c 0 (i + 1)) (declarationsFrom s p f c (i + 1) (n - (i + 1))) ≡ e
+    pub unknown-turn : b ≡ false → unknownFrom s (declarationsFrom rows values fields 0 (i + 1)) (declarationsFrom rows values fields (i + 1) (n - (i + 1))) ≡ e
     unfolding next
     unknown-turn hb = sym (ap (λ (x : Bool). x || next) hb) ∙ opened

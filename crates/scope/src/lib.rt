@@ -1,4 +1,4 @@
-// Refusals 4 and 5 over the tables of places (document 01, 'The answer'; `Scope::new` of analyzer.rs refuses duplicates too): two declarations with
+// Refusals 4 and 5 over the tables of a record (document 01, 'The answer'; `Scope::new` of analyzer.rs refuses duplicates too): two declarations with
 // one name, and a type or parent that is no earlier declaration of its kind.
 
 use definitions::DeclDesc;
@@ -8,50 +8,26 @@ use definitions::MaybePart;
 use definitions::Part;
 ghost use mathlib.Core.Path.{_≡_};
 ghost use mathlib.Core.Bool.{false};
+ghost use mathlib.Core.List.{[]};
 ghost use Prim.Native.Nat.{_+_, _-_, _≤_};
-ghost use lib.ListN.{length, getD};
 ghost use Rattle.definitions.specs.Bytes.{any};
-ghost use Rattle.definitions.specs.Sizes.{sameName, parentId};
+ghost use Rattle.definitions.specs.Sizes.{parentId};
 ghost use Rattle.definitions.specs.Refusals.{tooMany, duplicateName, find as findDesc, isFrame, isEnumDesc, lacks as lacksDesc, badName, badType, badNames, unknownName};
-ghost use Rattle.definitions.specs.Tables.{fieldsFrom, declarationIn, declarationsFrom};
-ghost use Rattle.ranges.specs.Ranges.{counted};
-ghost use Rattle.scope.specs.Scopes.{bare, namesFrom, twice, Gathered, wants, badFieldType};
+ghost use Rattle.tables.specs.Tables.{fieldsFrom, countHere, declarationIn, declarationsFrom};
+ghost use Rattle.ranges.specs.Ranges.{bare};
+ghost use Rattle.scope.specs.Scopes.{hasName, wants, badFieldType};
 
 // ---- 4: two declarations with one name
 
-// The names of the first n declarations, as two tables of their places in the record: so each declaration is read once.
-fn gather(rec: &[u8], places: &[usize], n: usize, starts: &mut [usize], ends: &mut [usize])
-    requires { ⌜ n ≤ length (now starts) ⌝ }
-    requires { ⌜ n ≤ length (now ends) ⌝ }
-    ensures { λ _. ⌜ Gathered (now (rec .entry)) (now (places .entry)) (now (starts .exit)) (now (ends .exit)) n ⌝ }
-{
-    let mut i = 0;
-    while i < n {
-        let at = places::get(places, i);
-        let d = places::decl_here(rec, at);
-        let id = d.id;
-        places::put(starts, i, id.start);
-        places::put(ends, i, id.end);
-        i += 1;
-    }
-}
-
-// One of the names from `first` up to n is the name.
-fn is_named(
-    rec: &[u8],
-    starts: &[usize],
-    ends: &[usize],
-    first: usize,
-    n: usize,
-    name: Part,
-) -> bool
-    ensures { λ r. ⌜ r ≡ any (sameName (now (rec .entry)) name) (namesFrom (now (starts .entry)) (now (ends .entry)) first (n - first)) ⌝ }
+// One of the declarations from `first` up to n has the name.
+fn is_named(rec: &[u8], rows: &[u64], first: usize, n: usize, name: Part) -> bool
+    ensures { λ r. ⌜ r ≡ any (hasName (now (rec .entry)) name) (declarationsFrom (now (rows .entry)) [] [] first (n - first)) ⌝ }
 {
     let mut i = first;
     while i < n {
-        let start = places::get(starts, i);
-        let end = places::get(ends, i);
-        if names::same_name(rec, name, Part { start, end }) {
+        let d = tables::decl_here(rows, i);
+        let id = d.id;
+        if names::same_name(rec, name, id) {
             return true;
         }
         i += 1;
@@ -59,31 +35,20 @@ fn is_named(
     false
 }
 
-// Two of the first n names are the same.
-fn is_twice(rec: &[u8], starts: &[usize], ends: &[usize], n: usize) -> bool
-    ensures { λ r. ⌜ r ≡ twice (now (rec .entry)) (namesFrom (now (starts .entry)) (now (ends .entry)) 0 n) ⌝ }
+// Two of the first n declarations have one name.
+pub fn duplicate_name(rec: &[u8], rows: &[u64], n: usize) -> bool
+    ensures { λ r. ⌜ r ≡ duplicateName (now (rec .entry)) (bare (now (rows .entry)) n) ⌝ }
 {
     let mut i = 0;
     while i < n {
-        let start = places::get(starts, i);
-        let end = places::get(ends, i);
-        if is_named(rec, starts, ends, i + 1, n, Part { start, end }) {
+        let d = tables::decl_here(rows, i);
+        let id = d.id;
+        if is_named(rec, rows, i + 1, n, id) {
             return true;
         }
         i += 1;
     }
     false
-}
-
-// Two of the first n declarations have one name, where there are not too many (3).
-pub fn duplicate_name(rec: &[u8], places: &[usize], n: usize) -> bool
-    requires { ⌜ n ≤ 32 ⌝ }
-    ensures { λ r. ⌜ r ≡ duplicateName (now (rec .entry)) (bare (now (rec .entry)) (now (places .entry)) n) ⌝ }
-{
-    let mut starts = [0usize; 32];
-    let mut ends = [0usize; 32];
-    gather(rec, places, n, &mut starts, &mut ends);
-    is_twice(rec, &starts, &ends, n)
 }
 
 // ---- 5: a type or parent is not an earlier declaration, a parent is no packet or struct, a fixed enum's type is no enum
@@ -141,14 +106,13 @@ fn plays(role: Role, desc: DeclDesc) -> bool
 }
 
 // None of the first n declarations has the name, or the first that has it does not play the role.
-fn lacks(rec: &[u8], places: &[usize], n: usize, role: Role, name: Part) -> bool
-    ensures { λ r. ⌜ r ≡ lacksDesc (wants role) (findDesc (now (rec .entry)) (bare (now (rec .entry)) (now (places .entry)) n) name) ⌝ }
+fn lacks(rec: &[u8], rows: &[u64], n: usize, role: Role, name: Part) -> bool
+    ensures { λ r. ⌜ r ≡ lacksDesc (wants role) (findDesc (now (rec .entry)) (bare (now (rows .entry)) n) name) ⌝ }
 {
-    match places::find(rec, places, n, name) {
+    match tables::find(rec, rows, n, name) {
         Found::Nothing => true,
         Found::At(i) => {
-            let at = places::get(places, i);
-            let d = places::decl_here(rec, at);
+            let d = tables::decl_here(rows, i);
             let desc = d.desc;
             !plays(role, desc)
         }
@@ -156,18 +120,18 @@ fn lacks(rec: &[u8], places: &[usize], n: usize, role: Role, name: Part) -> bool
 }
 
 // A name that may be absent.
-fn bad_name(rec: &[u8], places: &[usize], n: usize, role: Role, name: MaybePart) -> bool
-    ensures { λ r. ⌜ r ≡ badName (now (rec .entry)) (bare (now (rec .entry)) (now (places .entry)) n) (wants role) name ⌝ }
+fn bad_name(rec: &[u8], rows: &[u64], n: usize, role: Role, name: MaybePart) -> bool
+    ensures { λ r. ⌜ r ≡ badName (now (rec .entry)) (bare (now (rows .entry)) n) (wants role) name ⌝ }
 {
     match name {
         MaybePart::None => false,
-        MaybePart::Some(p) => lacks(rec, places, n, role, p),
+        MaybePart::Some(p) => lacks(rec, rows, n, role, p),
     }
 }
 
 // The type of a field of the declaration behind the first n.
-fn bad_type(rec: &[u8], places: &[usize], n: usize, desc: FieldDesc) -> bool
-    ensures { λ r. ⌜ r ≡ badType (now (rec .entry)) (bare (now (rec .entry)) (now (places .entry)) n) desc ⌝ }
+fn bad_type(rec: &[u8], rows: &[u64], n: usize, desc: FieldDesc) -> bool
+    ensures { λ r. ⌜ r ≡ badType (now (rec .entry)) (bare (now (rows .entry)) n) desc ⌝ }
 {
     match desc {
         FieldDesc::Checksum { field_id: _ } => false,
@@ -187,7 +151,7 @@ fn bad_type(rec: &[u8], places: &[usize], n: usize, desc: FieldDesc) -> bool
         FieldDesc::Body => false,
         FieldDesc::Payload { size_modifier: _ } => false,
         FieldDesc::FixedScalar { width: _, value: _ } => false,
-        FieldDesc::FixedEnum { enum_id, tag_id: _ } => lacks(rec, places, n, Role::Enum, enum_id),
+        FieldDesc::FixedEnum { enum_id, tag_id: _ } => lacks(rec, rows, n, Role::Enum, enum_id),
         FieldDesc::Reserved { width: _ } => false,
         FieldDesc::Array {
             id: _,
@@ -195,31 +159,32 @@ fn bad_type(rec: &[u8], places: &[usize], n: usize, desc: FieldDesc) -> bool
             type_id,
             size_modifier: _,
             size: _,
-        } => bad_name(rec, places, n, Role::Anything, type_id),
+        } => bad_name(rec, rows, n, Role::Anything, type_id),
         FieldDesc::Scalar { id: _, width: _ } => false,
         FieldDesc::Flag { id: _ } => false,
-        FieldDesc::Typedef { id: _, type_id } => lacks(rec, places, n, Role::Anything, type_id),
+        FieldDesc::Typedef { id: _, type_id } => lacks(rec, rows, n, Role::Anything, type_id),
     }
 }
 
 // The types of m fields, whose places the table has from `base` on.
 fn bad_types(
     rec: &[u8],
-    places: &[usize],
+    rows: &[u64],
     n: usize,
+    values: &[u64],
     fields: &[usize],
     base: usize,
     m: usize,
 ) -> bool
     requires { ⌜ base + m ≤ 4096 ⌝ }
-    ensures { λ r. ⌜ r ≡ any (badFieldType (now (rec .entry)) (bare (now (rec .entry)) (now (places .entry)) n)) (fieldsFrom (now (rec .entry)) (now (fields .entry)) base m) ⌝ }
+    ensures { λ r. ⌜ r ≡ any (badFieldType (now (rec .entry)) (bare (now (rows .entry)) n)) (fieldsFrom (now (values .entry)) (now (fields .entry)) base m) ⌝ }
 {
     let mut k = 0;
     while k < m {
-        let at = places::get(fields, base + k);
-        let f = places::field_here(rec, at);
+        let at = tables::get(fields, base + k);
+        let f = tables::field_here(values, at);
         let desc = f.desc;
-        if bad_type(rec, places, n, desc) {
+        if bad_type(rec, rows, n, desc) {
             return true;
         }
         k += 1;
@@ -245,36 +210,30 @@ fn parent_id(desc: DeclDesc) -> MaybePart
 }
 
 // The parent and the types of the declaration with the index i.
-fn bad_names(rec: &[u8], places: &[usize], fields: &[usize], counts: &[usize], i: usize) -> bool
+fn bad_names(rec: &[u8], rows: &[u64], values: &[u64], fields: &[usize], i: usize) -> bool
     requires { ⌜ i ≤ 32 ⌝ }
-    requires { ⌜ getD (now counts) i 0 ≤ 64 ⌝ }
-    ensures { λ r. ⌜ r ≡ badNames (now (rec .entry)) (bare (now (rec .entry)) (now (places .entry)) i) (declarationIn (now (rec .entry)) (now (places .entry)) (now (fields .entry)) (now (counts .entry)) i) ⌝ }
+    requires { ⌜ countHere (now rows) i ≤ 64 ⌝ }
+    ensures { λ r. ⌜ r ≡ badNames (now (rec .entry)) (bare (now (rows .entry)) i)
+        (declarationIn (now (rows .entry)) (now (values .entry)) (now (fields .entry)) i) ⌝ }
 {
-    let at = places::get(places, i);
-    let d = places::decl_here(rec, at);
+    let d = tables::decl_here(rows, i);
     let desc = d.desc;
     let parent = parent_id(desc);
-    if bad_name(rec, places, i, Role::Frame, parent) {
+    if bad_name(rec, rows, i, Role::Frame, parent) {
         return true;
     }
-    let m = places::get(counts, i);
-    bad_types(rec, places, i, fields, i * 64, m)
+    let m = tables::count_here(rows, i);
+    bad_types(rec, rows, i, values, fields, i * 64, m)
 }
 
 // A name of the first n declarations, where 3 is not met.
-pub fn unknown_name(
-    rec: &[u8],
-    places: &[usize],
-    fields: &[usize],
-    counts: &[usize],
-    n: usize,
-) -> bool
-    requires { ⌜ tooMany (counted (now counts) n) ≡ false ⌝ }
-    ensures { λ r. ⌜ r ≡ unknownName (now (rec .entry)) (declarationsFrom (now (rec .entry)) (now (places .entry)) (now (fields .entry)) (now (counts .entry)) 0 n) ⌝ }
+pub fn unknown_name(rec: &[u8], rows: &[u64], values: &[u64], fields: &[usize], n: usize) -> bool
+    requires { ⌜ tooMany (bare (now rows) n) ≡ false ⌝ }
+    ensures { λ r. ⌜ r ≡ unknownName (now (rec .entry)) (declarationsFrom (now (rows .entry)) (now (values .entry)) (now (fields .entry)) 0 n) ⌝ }
 {
     let mut i = 0;
     while i < n {
-        if bad_names(rec, places, fields, counts, i) {
+        if bad_names(rec, rows, values, fields, i) {
             return true;
         }
         i += 1;

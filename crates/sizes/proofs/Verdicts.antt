@@ -12,44 +12,49 @@ use Rattle.definitions.specs.declared.Found.{Found}
 use Rattle.definitions.specs.declared.Head.{Head}
 use Rattle.definitions.specs.declared.Refusal.{Refusal}
 use Rattle.definitions.specs.declared.Verdict.{Verdict}
+use Rattle.tables.specs.Tables.{declarationsFrom}
 use Rattle.schema.specs.Entries.{entriesFrom, Sized}
 use Rattle.sizes.specs.Answers.{targetFrom, targetOr, behindSchema, checkSizes, sizesVerdict, Checked}
 use Rattle.sizes.specs.declared.Sizing.{Sizing}
 use Rattle.sizes.proofs.Targets.{found-any}
 
-module _ (s : Text) (h : Head) (p f c own par pay : List ℕ) (n : ℕ) {b : Bool} (eb : b ≡ ragged s (entriesFrom s p f c own par pay 0 n)) where
+module _ (s : Text) (h : Head) (rows v f : List ℕ) (n : ℕ) {b : Bool} (eb : b ≡ ragged s (entriesFrom s rows v f 0 n)) where
   tested : {t : Bool} → b ≡ t
-      → _≡_ {A = Sizing} (elim t [ true ↦ Sizing.Refuse Refusal.NotWholeBytes | false ↦ targetOr (targetFrom s (h .target) 0 (entriesFrom s p f c own par pay 0 n)) ])
-      (behindSchema s h (entriesFrom s p f c own par pay 0 n))
+      → _≡_ {A = Sizing} (elim t [ true ↦ Sizing.Refuse Refusal.NotWholeBytes | false ↦ targetOr (targetFrom s (h .target) 0 (entriesFrom s rows v f 0 n)) ])
+      (behindSchema s h (entriesFrom s rows v f 0 n))
   unfolding behindSchema
   tested ht =
-      ap (λ (t : Bool). elim t [ true ↦ Sizing.Refuse Refusal.NotWholeBytes | false ↦ targetOr (targetFrom s (h .target) 0 (entriesFrom s p f c own par pay 0 n)) ]) (sym ht ∙ eb)
+      ap (λ (t : Bool). elim t [ true ↦ Sizing.Refuse Refusal.NotWholeBytes | false ↦ targetOr (targetFrom s (h .target) 0 (entriesFrom s rows v f 0 n)) ])
+      (sym ht ∙ eb)
 
-  pub behind-ragged : b ≡ true → Sizing.Refuse Refusal.NotWholeBytes ≡ behindSchema s h (entriesFrom s p f c own par pay 0 n)
+  pub behind-ragged : b ≡ true → Sizing.Refuse Refusal.NotWholeBytes ≡ behindSchema s h (entriesFrom s rows v f 0 n)
   behind-ragged hb = tested hb
 
-  module _ (hb : b ≡ false) {r : Found} (er : (f c own par pay : List ℕ) → r ≡ targetFrom s (h .target) 0 (entriesFrom s p f c own par pay 0 n)) where
-    pub behind-none : r ≡ Found.Nothing → Sizing.Refuse Refusal.NoTarget ≡ behindSchema s h (entriesFrom s p f c own par pay 0 n)
-    behind-none hr = ap targetOr (sym hr ∙ er f c own par pay) ∙ tested hb
+  module _ (hb : b ≡ false) {r : Found} (er : (v f : List ℕ) → r ≡ targetFrom s (h .target) 0 (entriesFrom s rows v f 0 n)) where
+    pub behind-none : r ≡ Found.Nothing → Sizing.Refuse Refusal.NoTarget ≡ behindSchema s h (entriesFrom s rows v f 0 n)
+    behind-none hr = ap targetOr (sym hr ∙ er v f) ∙ tested hb
 
-    pub behind-target : {i : ℕ} → r ≡ Found.At i → Sizing.Target i ≡ behindSchema s h (entriesFrom s p f c own par pay 0 n)
-    behind-target hr = ap targetOr (sym hr ∙ er f c own par pay) ∙ tested hb
+    pub behind-target : {i : ℕ} → r ≡ Found.At i → Sizing.Target i ≡ behindSchema s h (entriesFrom s rows v f 0 n)
+    behind-target hr = ap targetOr (sym hr ∙ er v f) ∙ tested hb
 
-module _ (s : Text) (h : Head) (ds : List Declaration) (entries : Schema) {b : Bool} (z : Sized s ds entries b) where
-  pub checked-large : b ≡ true → Checked s h ds entries (Sizing.Refuse Refusal.TooLarge)
-  unfolding checkSizes
-  checked-large hb = record {
-    answer = ap (λ (t : Bool). elim t [ true ↦ Sizing.Refuse Refusal.TooLarge | false ↦ behindSchema s h (newSchema s ds) ]) (sym hb ∙ z .answer);
-    tables = z .tables;
-  }
+module _ (s : Text) (h : Head) (rows v f : List ℕ) (n : ℕ) (rows′ : List ℕ) {b : Bool} (z : Sized s rows v f n rows′ b) where
+  all : Schema
+  all = newSchema s (declarationsFrom rows v f 0 n)
 
-  pub checked-fine : b ≡ false → {r : Sizing} → r ≡ behindSchema s h entries → Checked s h ds entries r
-  unfolding checkSizes
+  by-answer : {t : Bool} → b ≡ t → _≡_ {A = Sizing} (elim t [ true ↦ Sizing.Refuse Refusal.TooLarge | false ↦ behindSchema s h all ]) (checkSizes s h all)
+  unfolding checkSizes all
+  by-answer hb = ap (λ (t : Bool). elim t [ true ↦ Sizing.Refuse Refusal.TooLarge | false ↦ behindSchema s h all ]) (sym hb ∙ z .answer)
+
+  pub checked-large : b ≡ true → Checked s h rows v f n rows′ (Sizing.Refuse Refusal.TooLarge)
+  unfolding all
+  checked-large hb = record { answer = by-answer hb; tables = z .tables; left = z .left }
+
+  pub checked-fine : b ≡ false → {r : Sizing} → r ≡ behindSchema s h (entriesFrom s rows′ v f 0 n) → Checked s h rows v f n rows′ r
+  unfolding all
   checked-fine hb er = record {
-    answer =
-        er ∙ ap (behindSchema s h) (z .tables (sym (z .answer) ∙ hb))
-        ∙ ap (λ (t : Bool). elim t [ true ↦ Sizing.Refuse Refusal.TooLarge | false ↦ behindSchema s h (newSchema s ds) ]) (sym hb ∙ z .answer);
+    answer = er ∙ ap (behindSchema s h) (z .tables (sym (z .answer) ∙ hb)) ∙ by-answer hb;
     tables = z .tables;
+    left = z .left;
   }
 
 -- ---- the rest of `verdict`
@@ -59,7 +64,8 @@ module _ (s : Text) (h : Head) (schema : Schema) where
   target-verdict (Found.At i) = refl
   target-verdict Found.Nothing = refl
 
-  behind-verdict : sizesVerdict (behindSchema s h schema) ≡ refuseIf (ragged s schema) Refusal.NotWholeBytes (refuseIf (noTarget s h schema) Refusal.NoTarget Verdict.Pass)
+  behind-verdict : sizesVerdict (behindSchema s h schema)
+      ≡ refuseIf (ragged s schema) Refusal.NotWholeBytes (refuseIf (noTarget s h schema) Refusal.NoTarget Verdict.Pass)
   unfolding behindSchema noTarget
   behind-verdict = by (ragged s schema)
     where

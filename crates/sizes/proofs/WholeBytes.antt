@@ -11,7 +11,6 @@ use lib.ListN.{getD}
 use Rattle.definitions.specs.Bytes.{Text}
 use Rattle.definitions.specs.Sizes.{Row, totalOf, EnumOf, enumIs, noEnum, enumOf}
 use Rattle.definitions.specs.Refusals.{notWhole, raggedSize, raggedArray, isOptional, raggedEnum, raggedDesc, raggedField, ragged}
-use Rattle.definitions.specs.Tables.{fieldHere, fieldsFrom, rowsFrom}
 use Rattle.definitions.specs.declared.Cond.{Cond}
 use Rattle.definitions.specs.declared.Field.{Field}
 use Rattle.definitions.specs.declared.FieldDesc.{FieldDesc}
@@ -19,6 +18,7 @@ use Rattle.definitions.specs.declared.MaybeNumber.{MaybeNumber}
 use Rattle.definitions.specs.declared.MaybePart.{MaybePart}
 use Rattle.definitions.specs.declared.Part.{Part}
 use Rattle.definitions.specs.declared.Size.{Size}
+use Rattle.tables.specs.Tables.{countHere, fieldHere, fieldsFrom, rowsFrom}
 use Rattle.references.proofs.Turns.{fields-start, fields-end, fields-more}
 use Rattle.rows.specs.Enums.{enumType}
 use Rattle.rows.specs.declared.EnumType.{EnumType}
@@ -54,7 +54,8 @@ type-ragged (enumIs width isOpen isComplete) = refl
 type-ragged noEnum = refl
 
 module _ (s : Text) (rows : List Row) where
-  pub array-width : {w : MaybeNumber} (t : MaybePart) {n : ℕ} → w ≡ MaybeNumber.Some n → {b : Bool} → b ≡ raggedSize (Size.Static n) → b ≡ raggedArray s rows w t
+  pub array-width : {w : MaybeNumber} (t : MaybePart) {n : ℕ} → w ≡ MaybeNumber.Some n
+      → {b : Bool} → b ≡ raggedSize (Size.Static n) → b ≡ raggedArray s rows w t
   array-width t e h = h ∙ sym (ap (λ (w : MaybeNumber). raggedArray s rows w t) e)
 
   module _ {w : MaybeNumber} (ew : w ≡ MaybeNumber.None) {t : MaybePart} where
@@ -73,71 +74,68 @@ module _ (s : Text) (rows : List Row) where
         → b ≡ raggedDesc s rows optional d
     desc-scalar e ea eb = eb ∙ ap (λ (a : Bool). optional && a) ea ∙ ap (raggedDesc s rows optional) (sym e)
 
+    pub desc-typedef : {id type : Part} → d ≡ FieldDesc.Typedef id type → {t : EnumType} → t ≡ enumType (enumOf s rows type) → {a : Bool} → a ≡ raggedType t
+        → {b : Bool} → b ≡ (optional && a) → b ≡ raggedDesc s rows optional d
+    desc-typedef {id} {type} e et ea eb =
+        eb ∙ ap (λ (a : Bool). optional && a) (ea ∙ ap raggedType et ∙ type-ragged (enumOf s rows type)) ∙ ap (raggedDesc s rows optional) (sym e)
+
   pub field-ragged : (f : Field) {o : Bool} → o ≡ isOptional (f .cond) → {b : Bool} → b ≡ raggedDesc s rows o (f .desc) → b ≡ raggedField s rows f
   field-ragged f eo eb = eb ∙ ap (λ (o : Bool). raggedDesc s rows o (f .desc)) eo
 
-module _ (s p own par pay : List ℕ) (i : ℕ) (optional : Bool) {d : FieldDesc} where
-  pub desc-typedef : {id type : Part} → d ≡ FieldDesc.Typedef id type → {t : EnumType}
-      → ((own par pay : List ℕ) → t ≡ enumType (enumOf s (rowsFrom s p own par pay 0 i) type)) → {a : Bool} → a ≡ raggedType t → {b : Bool} → b ≡ (optional && a)
-      → b ≡ raggedDesc s (rowsFrom s p own par pay 0 i) optional d
-  desc-typedef {id} {type} e {t} et {a} ea {b} eb =
-      eb ∙ ap (λ (a : Bool). optional && a) (ea ∙ ap raggedType (et own par pay) ∙ type-ragged (enumOf s (rowsFrom s p own par pay 0 i) type))
-      ∙ ap (raggedDesc s (rowsFrom s p own par pay 0 i) optional) (sym e)
-
 -- ---- the fields of a declaration
 
-module _ (s : Text) (rows : List Row) (fields : List ℕ) (j n : ℕ) where
-  pub fields-ragged : raggedFields s rows (fieldsFrom s fields (j + 0) (n - 0)) ≡ raggedFields s rows (fieldsFrom s fields j n)
-  fields-ragged = ap (raggedFields s rows) (fields-start s fields j n)
+module _ (s : Text) (rows : List Row) (values fields : List ℕ) (j n : ℕ) where
+  pub fields-ragged : raggedFields s rows (fieldsFrom values fields (j + 0) (n - 0)) ≡ raggedFields s rows (fieldsFrom values fields j n)
+  fields-ragged = ap (raggedFields s rows) (fields-start values fields j n)
 
-  module _ (k : ℕ) {e : Bool} (inv : raggedFields s rows (fieldsFrom s fields (j + k) (n - k)) ≡ e) where
+  module _ (k : ℕ) {e : Bool} (inv : raggedFields s rows (fieldsFrom values fields (j + k) (n - k)) ≡ e) where
     pub fields-whole : n ≤ k → false ≡ e
     unfolding raggedFields
-    fields-whole h = ap (raggedFields s rows) (sym (fields-end s fields j n k h)) ∙ inv
+    fields-whole h = ap (raggedFields s rows) (sym (fields-end values fields j n k h)) ∙ inv
 
-    module _ (h : k < n) {f : Field} (ef : f ≡ fieldHere s (getD fields (j + k) 0)) {b : Bool} (eb : b ≡ raggedField s rows f) where
-      split : (b || raggedFields s rows (fieldsFrom s fields (j + (k + 1)) (n - (k + 1)))) ≡ e
+    module _ (h : k < n) {f : Field} (ef : f ≡ fieldHere values (getD fields (j + k) 0)) {b : Bool} (eb : b ≡ raggedField s rows f) where
+      split : (b || raggedFields s rows (fieldsFrom values fields (j + (k + 1)) (n - (k + 1)))) ≡ e
       unfolding raggedFields
       split =
-          ap (λ (b : Bool). b || raggedFields s rows (fieldsFrom s fields (j + (k + 1)) (n - (k + 1)))) (eb ∙ ap (raggedField s rows) ef)
-          ∙ ap (raggedFields s rows) (sym (fields-more s fields j n k h)) ∙ inv
+          ap (λ (b : Bool). b || raggedFields s rows (fieldsFrom values fields (j + (k + 1)) (n - (k + 1)))) (eb ∙ ap (raggedField s rows) ef)
+          ∙ ap (raggedFields s rows) (sym (fields-more values fields j n k h)) ∙ inv
 
       pub fields-found : b ≡ true → true ≡ e
-      fields-found hb = ap (λ (b : Bool). b || raggedFields s rows (fieldsFrom s fields (j + (k + 1)) (n - (k + 1)))) (sym hb) ∙ split
+      fields-found hb = ap (λ (b : Bool). b || raggedFields s rows (fieldsFrom values fields (j + (k + 1)) (n - (k + 1)))) (sym hb) ∙ split
 
-      pub fields-turn : b ≡ false → raggedFields s rows (fieldsFrom s fields (j + (k + 1)) (n - (k + 1))) ≡ e
-      fields-turn hb = ap (λ (b : Bool). b || raggedFields s rows (fieldsFrom s fields (j + (k + 1)) (n - (k + 1)))) (sym hb) ∙ split
+      pub fields-turn : b ≡ false → raggedFields s rows (fieldsFrom values fields (j + (k + 1)) (n - (k + 1))) ≡ e
+      fields-turn hb = ap (λ (b : Bool). b || raggedFields s rows (fieldsFrom values fields (j + (k + 1)) (n - (k + 1)))) (sym hb) ∙ split
 
 -- ---- the entries that the tables give, from the i-th on
 
-module _ (s p f c own par pay : List ℕ) (n : ℕ) where
-  pub entries-end : (i : ℕ) → n ≤ i → entriesFrom s p f c own par pay i (n - i) ≡ []
+module _ (s rows v f : List ℕ) (n : ℕ) where
+  pub entries-end : (i : ℕ) → n ≤ i → entriesFrom s rows v f i (n - i) ≡ []
   unfolding entriesFrom
-  entries-end i h = ap (entriesFrom s p f c own par pay i) (let z : n - i ≡ 0 = omega arith in z)
+  entries-end i h = ap (entriesFrom s rows v f i) (let z : n - i ≡ 0 = omega arith in z)
 
   pub entries-more : (i : ℕ) → i < n
-      → entriesFrom s p f c own par pay i (n - i) ≡ entryIn s p f c own par pay i ∷ entriesFrom s p f c own par pay (i + 1) (n - (i + 1))
+      → entriesFrom s rows v f i (n - i) ≡ entryIn s rows v f i ∷ entriesFrom s rows v f (i + 1) (n - (i + 1))
   unfolding entriesFrom
-  entries-more i h = ap (entriesFrom s p f c own par pay i) (let z : n - i ≡ suc (n - (i + 1)) = omega arith in z)
+  entries-more i h = ap (entriesFrom s rows v f i) (let z : n - i ≡ suc (n - (i + 1)) = omega arith in z)
 
-  pub entries-ragged : ragged s (entriesFrom s p f c own par pay 0 (n - 0)) ≡ ragged s (entriesFrom s p f c own par pay 0 n)
-  entries-ragged = ap (λ (m : ℕ). ragged s (entriesFrom s p f c own par pay 0 m)) (sub-zero n)
+  pub entries-ragged : ragged s (entriesFrom s rows v f 0 (n - 0)) ≡ ragged s (entriesFrom s rows v f 0 n)
+  entries-ragged = ap (λ (m : ℕ). ragged s (entriesFrom s rows v f 0 m)) (sub-zero n)
 
-  module _ (i : ℕ) {e : Bool} (inv : ragged s (entriesFrom s p f c own par pay i (n - i)) ≡ e) where
+  module _ (i : ℕ) {e : Bool} (inv : ragged s (entriesFrom s rows v f i (n - i)) ≡ e) where
     pub entries-whole : n ≤ i → false ≡ e
     unfolding ragged
     entries-whole h = ap (ragged s) (sym (entries-end i h)) ∙ inv
 
-    module _ (h : i < n) {m : ℕ} (em : m ≡ getD c i 0) {b : Bool} (eb : b ≡ raggedFields s (rowsFrom s p own par pay 0 i) (fieldsFrom s f (i * 64) m)) where
-      split-entries : (b || ragged s (entriesFrom s p f c own par pay (i + 1) (n - (i + 1)))) ≡ e
+    module _ (h : i < n) {m : ℕ} (em : m ≡ countHere rows i) {b : Bool} (eb : b ≡ raggedFields s (rowsFrom rows 0 i) (fieldsFrom v f (i * 64) m)) where
+      split-entries : (b || ragged s (entriesFrom s rows v f (i + 1) (n - (i + 1)))) ≡ e
       unfolding ragged raggedFields
       split-entries =
-          ap (λ (b : Bool). b || ragged s (entriesFrom s p f c own par pay (i + 1) (n - (i + 1))))
-          (eb ∙ ap (λ (m : ℕ). raggedFields s (rowsFrom s p own par pay 0 i) (fieldsFrom s f (i * 64) m)) em)
+          ap (λ (b : Bool). b || ragged s (entriesFrom s rows v f (i + 1) (n - (i + 1))))
+          (eb ∙ ap (λ (m : ℕ). raggedFields s (rowsFrom rows 0 i) (fieldsFrom v f (i * 64) m)) em)
           ∙ ap (ragged s) (sym (entries-more i h)) ∙ inv
 
       pub entries-found : b ≡ true → true ≡ e
-      entries-found hb = ap (λ (b : Bool). b || ragged s (entriesFrom s p f c own par pay (i + 1) (n - (i + 1)))) (sym hb) ∙ split-entries
+      entries-found hb = ap (λ (b : Bool). b || ragged s (entriesFrom s rows v f (i + 1) (n - (i + 1)))) (sym hb) ∙ split-entries
 
-      pub entries-turn : b ≡ false → ragged s (entriesFrom s p f c own par pay (i + 1) (n - (i + 1))) ≡ e
-      entries-turn hb = ap (λ (b : Bool). b || ragged s (entriesFrom s p f c own par pay (i + 1) (n - (i + 1)))) (sym hb) ∙ split-entries
+      pub entries-turn : b ≡ false → ragged s (entriesFrom s rows v f (i + 1) (n - (i + 1))) ≡ e
+      entries-turn hb = ap (λ (b : Bool). b || ragged s (entriesFrom s rows v f (i + 1) (n - (i + 1)))) (sym hb) ∙ split-entries

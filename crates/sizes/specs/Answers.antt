@@ -5,7 +5,6 @@ use mathlib.Core.List.{List, [], _∷_}
 use mathlib.Core.Path.{_≡_}
 use Prim.Native.Nat.{ℕ, _+_}
 use Rattle.definitions.specs.Bytes.{Text, any}
-use Rattle.definitions.specs.Record.{Declaration}
 use Rattle.definitions.specs.Sizes.{Schema, Row, sameName, newSchema}
 use Rattle.definitions.specs.Refusals.{notWhole, raggedField, ragged, large, isFrame}
 use Rattle.definitions.specs.declared.Field.{Field}
@@ -14,7 +13,9 @@ use Rattle.definitions.specs.declared.Head.{Head}
 use Rattle.definitions.specs.declared.Part.{Part}
 use Rattle.definitions.specs.declared.Refusal.{Refusal}
 use Rattle.definitions.specs.declared.Verdict.{Verdict}
+use Rattle.tables.specs.Tables.{declarationsFrom}
 use Rattle.rows.specs.declared.EnumType.{EnumType}
+use Rattle.schema.specs.Entries.{entriesFrom, sizedRows}
 use Rattle.sizes.specs.declared.Sizing.{Sizing}
 
 -- `raggedEnum` by value
@@ -50,7 +51,9 @@ abbrev pub sizesVerdict : Sizing → Verdict
 sizesVerdict (Sizing.Target i) = Verdict.Pass
 sizesVerdict (Sizing.Refuse why) = Verdict.Refuse why
 
--- the answer for the declarations `ds`, and where 7 is not met the tables give all of `Schema`, entry by entry
-pub record Checked (s : Text) (h : Head) (ds : List Declaration) (entries : Schema) (r : Sizing) : Type 0 where
-  pub answer : r ≡ checkSizes s h (newSchema s ds)
-  pub tables : large (newSchema s ds) ≡ false → entries ≡ newSchema s ds
+-- the answer for the declarations that the tables give; where 7 is not met they give all of `Schema`, entry by entry; and the table of rows that is left
+pub record Checked (s : Text) (h : Head) (rows values fields : List ℕ) (n : ℕ) (rows′ : List ℕ) (r : Sizing) : Type 0 where
+  pub answer : r ≡ checkSizes s h (newSchema s (declarationsFrom rows values fields 0 n))
+  pub tables : large (newSchema s (declarationsFrom rows values fields 0 n)) ≡ false
+      → entriesFrom s rows′ values fields 0 n ≡ newSchema s (declarationsFrom rows values fields 0 n)
+  pub left : rows′ ≡ sizedRows s rows values fields 0 n

@@ -1,5 +1,6 @@
 // `element_size` (analyzer.rs), refusals 8 and 9, and refusals 7 to 9 one after the other over the tables of a record.
 
+use annotate::ArrayParts;
 use definitions::Cond;
 use definitions::Decl;
 use definitions::DeclDesc;
@@ -19,10 +20,11 @@ ghost use mathlib.Core.Bool.{_&&_};
 ghost use mathlib.Core.List.{List};
 ghost use Prim.Native.Nat.{ℕ, _*_, _≤_};
 ghost use lib.ListN.{length};
+ghost use Rattle.definitions.specs.Bytes.{Text};
 ghost use Rattle.definitions.specs.Sizes.{sameName, typedElement, elementSize};
 ghost use Rattle.definitions.specs.Refusals.{notWhole, raggedSize, raggedArray, isOptional, raggedDesc, raggedField, ragged, isFrame};
-ghost use Rattle.definitions.specs.Tables.{fieldsFrom, rowsFrom, declarationsFrom};
 ghost use Rattle.definitions.specs.declared.Size.{Size};
+ghost use Rattle.tables.specs.Tables.{Tables, tablesOf, rowsOf, fieldsOf, rowsFrom};
 ghost use Rattle.schema.specs.Entries.{entriesFrom};
 ghost use Rattle.sizes.specs.Answers.{raggedType, raggedFields, targetFrom, behindSchema, Checked};
 
@@ -46,28 +48,31 @@ fn typed_element(size: Size, given: bool) -> ElementSize
     }
 }
 
-// Of the array `id`, in the declaration with the index i and n fields.
+// Of an array, in the declaration with the index i and n fields.
 pub fn element_size(
     rec: &[u8],
-    places: &[usize],
-    own: &[u64],
-    parents: &[u64],
-    payloads: &[u64],
+    rows: &[u64],
+    values: &[u64],
     fields: &[usize],
     i: usize,
     n: usize,
-    id: Part,
-    width: MaybeNumber,
-    type_id: MaybePart,
+    array: ArrayParts,
 ) -> ElementSize
-    ensures { λ r. ⌜ r ≡ elementSize (now (rec .entry)) (rowsFrom (now (rec .entry)) (now (places .entry)) (now (own .entry)) (now (parents .entry)) (now (payloads .entry)) 0 i) (fieldsFrom (now (rec .entry)) (now (fields .entry)) (i * 64) n) id width «type_id» ⌝ }
+    ensures { λ r. let t : Tables = tablesOf (now (rec .entry)) (now (rows .entry)) (now (values .entry)) (now (fields .entry)) in
+        ⌜ r ≡ elementSize (t .source) (rowsOf t i) (fieldsOf t i n) (array .id) (array .width) (array .«type_id») ⌝ }
 {
+    let id = array.id;
+    let width = array.width;
+    let type_id = array.type_id;
     match width {
         MaybeNumber::Some(bits) => ElementSize::Static(bits / 8),
         MaybeNumber::None => match type_id {
             MaybePart::Some(name) => {
-                let size = rows::total_of(rec, places, own, parents, payloads, i, name);
-                typed_element(size, references::has_element_size(rec, fields, i, n, id))
+                let size = rows::total_of(rec, rows, i, name);
+                typed_element(
+                    size,
+                    references::has_element_size(rec, values, fields, i, n, id),
+                )
             }
             MaybePart::None => ElementSize::Unknown,
         },
@@ -101,30 +106,13 @@ fn ragged_size(size: Size) -> bool
     }
 }
 
-fn ragged_array(
-    rec: &[u8],
-    places: &[usize],
-    own: &[u64],
-    parents: &[u64],
-    payloads: &[u64],
-    i: usize,
-    width: MaybeNumber,
-    type_id: MaybePart,
-) -> bool
-    ensures { λ r. ⌜ r ≡ raggedArray (now (rec .entry)) (rowsFrom (now (rec .entry)) (now (places .entry)) (now (own .entry)) (now (parents .entry)) (now (payloads .entry)) 0 i) width «type_id» ⌝ }
+fn ragged_array(rec: &[u8], rows: &[u64], i: usize, width: MaybeNumber, type_id: MaybePart) -> bool
+    ensures { λ r. ⌜ r ≡ raggedArray (now (rec .entry)) (rowsFrom (now (rows .entry)) 0 i) width «type_id» ⌝ }
 {
     match width {
         MaybeNumber::Some(bits) => ragged_bits(bits),
         MaybeNumber::None => match type_id {
-            MaybePart::Some(name) => ragged_size(rows::total_of(
-                rec,
-                places,
-                own,
-                parents,
-                payloads,
-                i,
-                name,
-            )),
+            MaybePart::Some(name) => ragged_size(rows::total_of(rec, rows, i, name)),
             MaybePart::None => false,
         },
     }
@@ -152,17 +140,8 @@ fn both(a: bool, b: bool) -> bool
     false
 }
 
-fn ragged_desc(
-    rec: &[u8],
-    places: &[usize],
-    own: &[u64],
-    parents: &[u64],
-    payloads: &[u64],
-    i: usize,
-    optional: bool,
-    desc: FieldDesc,
-) -> bool
-    ensures { λ r. ⌜ r ≡ raggedDesc (now (rec .entry)) (rowsFrom (now (rec .entry)) (now (places .entry)) (now (own .entry)) (now (parents .entry)) (now (payloads .entry)) 0 i) optional desc ⌝ }
+fn ragged_desc(rec: &[u8], rows: &[u64], i: usize, optional: bool, desc: FieldDesc) -> bool
+    ensures { λ r. ⌜ r ≡ raggedDesc (now (rec .entry)) (rowsFrom (now (rows .entry)) 0 i) optional desc ⌝ }
 {
     match desc {
         FieldDesc::Checksum { field_id: _ } => false,
@@ -193,12 +172,12 @@ fn ragged_desc(
             type_id,
             size_modifier: _,
             size: _,
-        } => ragged_array(rec, places, own, parents, payloads, i, width, type_id),
+        } => ragged_array(rec, rows, i, width, type_id),
         FieldDesc::Scalar { id: _, width } => both(optional, not_whole(width)),
         FieldDesc::Flag { id: _ } => false,
         FieldDesc::Typedef { id: _, type_id } => both(
             optional,
-            ragged_type(rows::enum_of(rec, places, i, type_id)),
+            ragged_type(rows::enum_of(rec, rows, i, type_id)),
         ),
     }
 }
@@ -212,47 +191,29 @@ fn is_optional(cond: Cond) -> bool
     }
 }
 
-fn ragged_field(
-    rec: &[u8],
-    places: &[usize],
-    own: &[u64],
-    parents: &[u64],
-    payloads: &[u64],
-    i: usize,
-    f: Field,
-) -> bool
-    ensures { λ r. ⌜ r ≡ raggedField (now (rec .entry)) (rowsFrom (now (rec .entry)) (now (places .entry)) (now (own .entry)) (now (parents .entry)) (now (payloads .entry)) 0 i) f ⌝ }
+fn ragged_field(rec: &[u8], rows: &[u64], i: usize, f: Field) -> bool
+    ensures { λ r. ⌜ r ≡ raggedField (now (rec .entry)) (rowsFrom (now (rows .entry)) 0 i) f ⌝ }
 {
     let cond = f.cond;
     let desc = f.desc;
-    ragged_desc(
-        rec,
-        places,
-        own,
-        parents,
-        payloads,
-        i,
-        is_optional(cond),
-        desc,
-    )
+    ragged_desc(rec, rows, i, is_optional(cond), desc)
 }
 
 fn ragged_fields(
     rec: &[u8],
-    places: &[usize],
-    own: &[u64],
-    parents: &[u64],
-    payloads: &[u64],
+    rows: &[u64],
+    values: &[u64],
     fields: &[usize],
     i: usize,
     n: usize,
 ) -> bool
-    ensures { λ r. ⌜ r ≡ raggedFields (now (rec .entry)) (rowsFrom (now (rec .entry)) (now (places .entry)) (now (own .entry)) (now (parents .entry)) (now (payloads .entry)) 0 i) (fieldsFrom (now (rec .entry)) (now (fields .entry)) (i * 64) n) ⌝ }
+    ensures { λ r. let t : Tables = tablesOf (now (rec .entry)) (now (rows .entry)) (now (values .entry)) (now (fields .entry)) in
+        ⌜ r ≡ raggedFields (t .source) (rowsOf t i) (fieldsOf t i n) ⌝ }
 {
     let mut k = 0;
     while k < n {
-        let f = references::field_in(rec, fields, i, k);
-        if ragged_field(rec, places, own, parents, payloads, i, f) {
+        let f = references::field_in(values, fields, i, k);
+        if ragged_field(rec, rows, i, f) {
             return true;
         }
         k += 1;
@@ -260,22 +221,14 @@ fn ragged_fields(
     false
 }
 
-pub fn ragged(
-    rec: &[u8],
-    places: &[usize],
-    own: &[u64],
-    parents: &[u64],
-    payloads: &[u64],
-    fields: &[usize],
-    counts: &[usize],
-    n: usize,
-) -> bool
-    ensures { λ r. ⌜ r ≡ ragged (now (rec .entry)) (entriesFrom (now (rec .entry)) (now (places .entry)) (now (fields .entry)) (now (counts .entry)) (now (own .entry)) (now (parents .entry)) (now (payloads .entry)) 0 n) ⌝ }
+pub fn ragged(rec: &[u8], rows: &[u64], values: &[u64], fields: &[usize], n: usize) -> bool
+    ensures { λ r. let t : Tables = tablesOf (now (rec .entry)) (now (rows .entry)) (now (values .entry)) (now (fields .entry)) in
+        ⌜ r ≡ ragged (t .source) (entriesFrom (t .source) (t .rows) (t .values) (t .fields) 0 n) ⌝ }
 {
     let mut i = 0;
     while i < n {
-        let m = places::get(counts, i);
-        if ragged_fields(rec, places, own, parents, payloads, fields, i, m) {
+        let m = tables::count_here(rows, i);
+        if ragged_fields(rec, rows, values, fields, i, m) {
             return true;
         }
         i += 1;
@@ -283,7 +236,7 @@ pub fn ragged(
     false
 }
 
-// ---- 9: the target is no packet or struct; no size and no field is looked at, so any other tables will do
+// ---- 9: the target is no packet or struct; no field is looked at, so any tables of fields will do
 
 fn is_frame(desc: DeclDesc) -> bool
     ensures { λ r. ⌜ r ≡ isFrame desc ⌝ }
@@ -310,13 +263,13 @@ fn is_target(rec: &[u8], name: Part, d: Decl) -> bool
 }
 
 // The index of the first packet or struct with the target's name.
-pub fn target(rec: &[u8], name: Part, places: &[usize], n: usize) -> Found
-    ensures { λ r. ⌜ ((fields counts own parents payloads : List ℕ) → r ≡ targetFrom (now (rec .entry)) name 0 (entriesFrom (now (rec .entry)) (now (places .entry)) fields counts own parents payloads 0 n)) ⌝ }
+pub fn target(rec: &[u8], rows: &[u64], n: usize, name: Part) -> Found
+    ensures { λ r. let s : Text = now (rec .entry) in
+        ⌜ ((values fields : List ℕ) → r ≡ targetFrom s name 0 (entriesFrom s (now (rows .entry)) values fields 0 n)) ⌝ }
 {
     let mut i = 0;
     while i < n {
-        let at = places::get(places, i);
-        let d = places::decl_here(rec, at);
+        let d = tables::decl_here(rows, i);
         if is_target(rec, name, d) {
             return Found::At(i);
         }
@@ -336,45 +289,38 @@ pub enum Sizing {
 fn behind_schema(
     rec: &[u8],
     head: Head,
-    places: &[usize],
-    own: &[u64],
-    parents: &[u64],
-    payloads: &[u64],
+    rows: &[u64],
+    values: &[u64],
     fields: &[usize],
-    counts: &[usize],
     n: usize,
 ) -> Sizing
-    ensures { λ r. ⌜ r ≡ behindSchema (now (rec .entry)) head (entriesFrom (now (rec .entry)) (now (places .entry)) (now (fields .entry)) (now (counts .entry)) (now (own .entry)) (now (parents .entry)) (now (payloads .entry)) 0 n) ⌝ }
+    ensures { λ r. let t : Tables = tablesOf (now (rec .entry)) (now (rows .entry)) (now (values .entry)) (now (fields .entry)) in
+        ⌜ r ≡ behindSchema (t .source) head (entriesFrom (t .source) (t .rows) (t .values) (t .fields) 0 n) ⌝ }
 {
-    if ragged(rec, places, own, parents, payloads, fields, counts, n) {
+    if ragged(rec, rows, values, fields, n) {
         return Sizing::Refuse(Refusal::NotWholeBytes);
     }
     let name = head.target;
-    let Found::At(i) = target(rec, name, places, n) else {
+    let Found::At(i) = target(rec, rows, n, name) else {
         return Sizing::Refuse(Refusal::NoTarget);
     };
     Sizing::Target(i)
 }
 
-// The tables of the n declarations are filled; where 7 is not met they hold all of `Schema`.
+// The sizes of the n declarations are put into the rows; where 7 is not met the tables give all of `Schema`.
 pub fn check_sizes(
     rec: &[u8],
     head: Head,
-    places: &[usize],
+    rows: &mut [u64],
+    values: &[u64],
     fields: &[usize],
-    counts: &[usize],
     n: usize,
-    own: &mut [u64],
-    parents: &mut [u64],
-    payloads: &mut [u64],
 ) -> Sizing
-    requires { ⌜ n ≤ length (now own) ⌝ }
-    requires { ⌜ n ≤ length (now parents) ⌝ }
-    requires { ⌜ n ≤ length (now payloads) ⌝ }
-    ensures { λ r. ⌜ Checked (now (rec .entry)) head (declarationsFrom (now (rec .entry)) (now (places .entry)) (now (fields .entry)) (now (counts .entry)) 0 n) (entriesFrom (now (rec .entry)) (now (places .entry)) (now (fields .entry)) (now (counts .entry)) (now (own .exit)) (now (parents .exit)) (now (payloads .exit)) 0 n) r ⌝ }
+    requires { ⌜ n * 11 ≤ length (now rows) ⌝ }
+    ensures { λ r. ⌜ Checked (now (rec .entry)) head (now (rows .entry)) (now (values .entry)) (now (fields .entry)) n (now (rows .exit)) r ⌝ }
 {
-    if schema::schema(rec, places, fields, counts, n, own, parents, payloads) {
+    if schema::schema(rec, rows, values, fields, n) {
         return Sizing::Refuse(Refusal::TooLarge);
     }
-    behind_schema(rec, head, places, own, parents, payloads, fields, counts, n)
+    behind_schema(rec, head, rows, values, fields, n)
 }

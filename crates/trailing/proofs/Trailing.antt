@@ -4,12 +4,12 @@ use Prim.Native.Nat.{ℕ, _+_, _≤_, _<_, _^_}
 use mathlib.Core.List.{List, _∷_}
 use mathlib.Core.Path.{_≡_, sym, ap, _∙_}
 use native.Mathlib.Omega.{arith}
-use Rattle.definitions.specs.Bytes.{Text}
 use Rattle.definitions.specs.Sizes.{Annotated}
 use Rattle.definitions.specs.Refusals.{staticBits, staticSum}
 use Rattle.definitions.specs.FieldParser.{trailingFrom}
 use Rattle.definitions.specs.declared.MaybeNumber.{MaybeNumber}
 use Rattle.definitions.specs.declared.Size.{Size}
+use Rattle.tables.specs.Tables.{Tables, tablesOf}
 use Rattle.emits.specs.Target.{restAt, annotatedAt, Fine}
 use Rattle.trailing.specs.Values.{staticNumber}
 use Rattle.emits.proofs.Rests.{rest-end, rest-step}
@@ -38,38 +38,41 @@ module _ (t : ℕ) (a : Annotated) (later : List Annotated) where
   other-head Size.Unknown e h =
       sym (ap (λ (z : Size). elim z [ Size.Static bits ↦ trailingFrom (t + bits) later | Size.Dynamic ↦ MaybeNumber.None | Size.Unknown ↦ MaybeNumber.None ]) e)
 
-module _ (s : Text) (places own parents payloads fields : List ℕ) (i n : ℕ) where
+module _ (s rows values fields : List ℕ) (i n : ℕ) where
+  abbrev tables : Tables
+  tables = tablesOf s rows values fields
+
   abbrev rest : ℕ → List Annotated
-  rest j = restAt s places own parents payloads fields i n j
+  rest j = restAt tables i n j
 
   abbrev here : ℕ → Annotated
-  here j = annotatedAt s places own parents payloads fields i n j
+  here j = annotatedAt tables i n j
 
   module _ (j t : ℕ) {e : MaybeNumber} (inv : trailingFrom t (rest j) ≡ e) where
     pub trailing-end : n ≤ j → MaybeNumber.Some t ≡ e
     unfolding trailingFrom
-    trailing-end h = ap (trailingFrom t) (sym (rest-end s places own parents payloads fields i n j h)) ∙ inv
+    trailing-end h = ap (trailingFrom t) (sym (rest-end s rows values fields i n j h)) ∙ inv
 
     module _ (h : j < n) {z : Size} (ez : z ≡ here j .fieldSize) {m : MaybeNumber} (em : m ≡ staticNumber z) where
       pub trailing-none : m ≡ MaybeNumber.None → MaybeNumber.None ≡ e
       trailing-none k =
           other-head t (here j) (rest (j + 1)) z (sym ez) (sym k ∙ em)
-          ∙ ap (trailingFrom t) (sym (rest-step s places own parents payloads fields i n j h)) ∙ inv
+          ∙ ap (trailingFrom t) (sym (rest-step s rows values fields i n j h)) ∙ inv
 
       pub trailing-turn : {bits : ℕ} → m ≡ MaybeNumber.Some bits → trailingFrom (t + bits) (rest (j + 1)) ≡ e
       trailing-turn k =
           sym (static-head t (here j) (rest (j + 1)) (sym ez ∙ is-static z (sym k ∙ em)))
-          ∙ ap (trailingFrom t) (sym (rest-step s places own parents payloads fields i n j h)) ∙ inv
+          ∙ ap (trailingFrom t) (sym (rest-step s rows values fields i n j h)) ∙ inv
 
-  pub room-start : Fine s places own parents payloads fields i n → (k : ℕ) → k < n → 0 + staticSum (rest (k + 1)) ≤ 2147483647
-  room-start fine k h = omega (arith, sum-fine s places own parents payloads fields i n fine (k + 1) (omega arith))
+  pub room-start : Fine tables i n → (k : ℕ) → k < n → 0 + staticSum (rest (k + 1)) ≤ 2147483647
+  room-start fine k h = omega (arith, sum-fine s rows values fields i n fine (k + 1) (omega arith))
 
   module _ (j t : ℕ) (room : t + staticSum (rest j) ≤ 2147483647) (h : j < n) {z : Size} (ez : z ≡ here j .fieldSize) {m : MaybeNumber} (em : m ≡ staticNumber z)
       {bits : ℕ} (k : m ≡ MaybeNumber.Some bits) where
     sum-here : staticSum (rest j) ≡ bits + staticSum (rest (j + 1))
     unfolding staticSum
     sum-here =
-        ap staticSum (rest-step s places own parents payloads fields i n j h)
+        ap staticSum (rest-step s rows values fields i n j h)
         ∙ ap (λ (z : Size). staticBits z + staticSum (rest (j + 1))) (sym ez ∙ is-static z (sym k ∙ em))
 
     pub room-here : t + bits < 2 ^ 64

@@ -12,7 +12,8 @@ ghost use mathlib.Core.Path.{_≡_};
 ghost use Prim.Native.Nat.{_+_, _<_};
 ghost use Rattle.definitions.specs.Sizes.{hasPayloadSize};
 ghost use Rattle.definitions.specs.FieldParser.{getTrailingSize};
-ghost use Rattle.emits.specs.Target.{fieldsOf, restAt, annotatedAt, Fine};
+ghost use Rattle.tables.specs.Tables.{Tables, tablesOf, fieldsOf};
+ghost use Rattle.emits.specs.Target.{restAt, annotatedAt, Fine};
 ghost use Rattle.trailing.specs.Values.{staticNumber, typedefUpTo, typedefAt, unsizedAt, payloadAt};
 
 // ---- the fields behind
@@ -31,43 +32,41 @@ fn static_bits(size: Size) -> MaybeNumber
 // `schema.field_size` of field k.
 fn field_size(
     rec: &[u8],
-    places: &[usize],
-    own: &[u64],
-    parents: &[u64],
-    payloads: &[u64],
+    rows: &[u64],
+    values: &[u64],
     fields: &[usize],
     i: usize,
     n: usize,
     k: usize,
 ) -> Size
     requires { ⌜ k < n ⌝ }
-    requires { ⌜ Fine (now rec) (now places) (now own) (now parents) (now payloads) (now fields) i n ⌝ }
-    ensures { λ r. ⌜ r ≡ annotatedAt (now (rec .entry)) (now (places .entry)) (now (own .entry)) (now (parents .entry)) (now (payloads .entry)) (now (fields .entry)) i n k .fieldSize ⌝ }
+    requires { let t : Tables = tablesOf (now rec) (now rows) (now values) (now fields) in ⌜ Fine t i n ⌝ }
+    ensures { λ r. let t : Tables = tablesOf (now (rec .entry)) (now (rows .entry)) (now (values .entry)) (now (fields .entry)) in
+        ⌜ r ≡ annotatedAt t i n k .fieldSize ⌝ }
 {
-    let f = references::field_in(rec, fields, i, k);
-    annotate::field_size(rec, places, own, parents, payloads, fields, i, n, f)
+    let f = references::field_in(values, fields, i, k);
+    annotate::field_size(rec, rows, values, fields, i, n, f)
 }
 
 // The bits of all fields behind number k; none where one of them is not static.
 fn get_trailing_size(
     rec: &[u8],
-    places: &[usize],
-    own: &[u64],
-    parents: &[u64],
-    payloads: &[u64],
+    rows: &[u64],
+    values: &[u64],
     fields: &[usize],
     i: usize,
     n: usize,
     k: usize,
 ) -> MaybeNumber
     requires { ⌜ k < n ⌝ }
-    requires { ⌜ Fine (now rec) (now places) (now own) (now parents) (now payloads) (now fields) i n ⌝ }
-    ensures { λ r. ⌜ r ≡ getTrailingSize (restAt (now (rec .entry)) (now (places .entry)) (now (own .entry)) (now (parents .entry)) (now (payloads .entry)) (now (fields .entry)) i n (k + 1)) ⌝ }
+    requires { let t : Tables = tablesOf (now rec) (now rows) (now values) (now fields) in ⌜ Fine t i n ⌝ }
+    ensures { λ r. let t : Tables = tablesOf (now (rec .entry)) (now (rows .entry)) (now (values .entry)) (now (fields .entry)) in
+        ⌜ r ≡ getTrailingSize (restAt t i n (k + 1)) ⌝ }
 {
     let mut trailing_size: u64 = 0;
     let mut j = k + 1;
     while j < n {
-        let size = field_size(rec, places, own, parents, payloads, fields, i, n, j);
+        let size = field_size(rec, rows, values, fields, i, n, j);
         let MaybeNumber::Some(bits) = static_bits(size) else {
             return MaybeNumber::None;
         };
@@ -99,10 +98,8 @@ fn typedef_up_to(id: Part, type_id: Part, trailing_size: MaybeNumber) -> EmitAt
 
 pub fn parse_typedef_field(
     rec: &[u8],
-    places: &[usize],
-    own: &[u64],
-    parents: &[u64],
-    payloads: &[u64],
+    rows: &[u64],
+    values: &[u64],
     fields: &[usize],
     i: usize,
     n: usize,
@@ -112,20 +109,21 @@ pub fn parse_typedef_field(
     type_id: Part,
 ) -> EmitAt
     requires { ⌜ k < n ⌝ }
-    requires { ⌜ Fine (now rec) (now places) (now own) (now parents) (now payloads) (now fields) i n ⌝ }
-    ensures { λ r. ⌜ r ≡ typedefAt shift id «type_id» (annotatedAt (now (rec .entry)) (now (places .entry)) (now (own .entry)) (now (parents .entry)) (now (payloads .entry)) (now (fields .entry)) i n k .fieldSize) (getTrailingSize (restAt (now (rec .entry)) (now (places .entry)) (now (own .entry)) (now (parents .entry)) (now (payloads .entry)) (now (fields .entry)) i n (k + 1))) ⌝ }
+    requires { let t : Tables = tablesOf (now rec) (now rows) (now values) (now fields) in ⌜ Fine t i n ⌝ }
+    ensures { λ r. let t : Tables = tablesOf (now (rec .entry)) (now (rows .entry)) (now (values .entry)) (now (fields .entry)) in
+        ⌜ r ≡ typedefAt shift id «type_id» (annotatedAt t i n k .fieldSize) (getTrailingSize (restAt t i n (k + 1))) ⌝ }
 {
     if shift != 0 {
         return EmitAt::Refuses(Refusal::OctetBoundary);
     }
-    let size = field_size(rec, places, own, parents, payloads, fields, i, n, k);
+    let size = field_size(rec, rows, values, fields, i, n, k);
     match size {
         Size::Static(_) => EmitAt::Appends(BlockAt::Nested { id, type_id }),
         Size::Dynamic => EmitAt::Appends(BlockAt::Nested { id, type_id }),
         Size::Unknown => typedef_up_to(
             id,
             type_id,
-            get_trailing_size(rec, places, own, parents, payloads, fields, i, n, k),
+            get_trailing_size(rec, rows, values, fields, i, n, k),
         ),
     }
 }
@@ -148,10 +146,8 @@ fn unsized_payload(trailing_size: MaybeNumber) -> EmitAt
 
 pub fn parse_payload_field_lite(
     rec: &[u8],
-    places: &[usize],
-    own: &[u64],
-    parents: &[u64],
-    payloads: &[u64],
+    rows: &[u64],
+    values: &[u64],
     fields: &[usize],
     i: usize,
     n: usize,
@@ -160,14 +156,15 @@ pub fn parse_payload_field_lite(
     size_modifier: Modifier,
 ) -> EmitAt
     requires { ⌜ k < n ⌝ }
-    requires { ⌜ Fine (now rec) (now places) (now own) (now parents) (now payloads) (now fields) i n ⌝ }
-    ensures { λ r. ⌜ r ≡ payloadAt shift «size_modifier» (hasPayloadSize (now (rec .entry)) (fieldsOf (now (rec .entry)) (now (places .entry)) (now (own .entry)) (now (parents .entry)) (now (payloads .entry)) (now (fields .entry)) i n)) (getTrailingSize (restAt (now (rec .entry)) (now (places .entry)) (now (own .entry)) (now (parents .entry)) (now (payloads .entry)) (now (fields .entry)) i n (k + 1))) ⌝ }
+    requires { let t : Tables = tablesOf (now rec) (now rows) (now values) (now fields) in ⌜ Fine t i n ⌝ }
+    ensures { λ r. let t : Tables = tablesOf (now (rec .entry)) (now (rows .entry)) (now (values .entry)) (now (fields .entry)) in
+        ⌜ r ≡ payloadAt shift «size_modifier» (hasPayloadSize (t .source) (fieldsOf t i n)) (getTrailingSize (restAt t i n (k + 1))) ⌝ }
 {
     if shift != 0 {
         return EmitAt::Refuses(Refusal::OctetBoundary);
     }
-    if references::has_payload_size(rec, fields, i, n) {
+    if references::has_payload_size(rec, values, fields, i, n) {
         return EmitAt::Appends(BlockAt::SizedPayload(size_modifier));
     }
-    unsized_payload(get_trailing_size(rec, places, own, parents, payloads, fields, i, n, k))
+    unsized_payload(get_trailing_size(rec, rows, values, fields, i, n, k))
 }

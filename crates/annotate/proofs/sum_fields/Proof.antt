@@ -3,7 +3,7 @@
 use Prim.Native.Nat.{_+_, _*_, _-_, _≤_}
 use mathlib.Core.Path.{_≡_}
 use Rattle.definitions.specs.Sizes.{annotateFields}
-use Rattle.definitions.specs.Tables.{fieldsFrom, rowsFrom}
+use Rattle.tables.specs.Tables.{fieldsFrom, rowsFrom}
 use Rattle.annotate.specs.Sums.{sumFields, noFields}
 use Rattle.annotate.proofs.Adding.{walk-start, walk-end, walk-turn}
 use borrow.Author.Needs.{needs}
@@ -11,10 +11,13 @@ use Rattle.annotate.proofs.sum_fields.Statement.{statement}
 use Rattle.annotate.proofs.sum_fields.Tie as tie
 
 abbrev Inv-loop : tie.InvT-loop
-Inv-loop rec places own parents payloads fields i n sums₀ k₀ sums k = (k ≤ n) × (sumFields sums (annotateFields rec (rowsFrom rec places own parents payloads 0 i) (fieldsFrom rec fields (i * 64) n) (fieldsFrom rec fields (i * 64 + k) (n - k))) ≡ sumFields noFields (annotateFields rec (rowsFrom rec places own parents payloads 0 i) (fieldsFrom rec fields (i * 64) n) (fieldsFrom rec fields (i * 64) n)))
+Inv-loop rec rows values fields i n sums₀ k₀ sums k =
+    (k ≤ n)
+    × (sumFields sums (annotateFields rec (rowsFrom rows 0 i) (fieldsFrom values fields (i * 64) n) (fieldsFrom values fields (i * 64 + k) (n - k)))
+    ≡ sumFields noFields (annotateFields rec (rowsFrom rows 0 i) (fieldsFrom values fields (i * 64) n) (fieldsFrom values fields (i * 64) n)))
 
 abbrev μ-loop : tie.MeasureT-loop
-μ-loop rec places own parents payloads fields i n sums₀ k₀ sums k = n - k
+μ-loop rec rows values fields i n sums₀ k₀ sums k = n - k
 
 loop-holds : tie.Need-loop-holds Inv-loop μ-loop
 loop-holds c = (search needs, search (walk-start, needs))

@@ -7,10 +7,10 @@ use Rattle.conditions.proofs.conditions.Statement.{statement}
 use Rattle.conditions.proofs.conditions.Tie as tie
 
 abbrev Inv-loop : tie.InvT-loop
-Inv-loop rec fields i n starts₀ ends₀ m₀ k₀ starts ends m k = Left rec fields (i * 64) n starts₀ ends₀ starts ends m k
+Inv-loop values fields i n starts₀ ends₀ m₀ k₀ starts ends m k = Left values fields (i * 64) n starts₀ ends₀ starts ends m k
 
 abbrev μ-loop : tie.MeasureT-loop
-μ-loop rec fields i n starts₀ ends₀ m₀ k₀ starts ends m k = n - k
+μ-loop values fields i n starts₀ ends₀ m₀ k₀ starts ends m k = n - k
 
 loop-holds : tie.Need-loop-holds Inv-loop μ-loop
 loop-holds c = search (left-start, needs)

@@ -6,7 +6,7 @@ use Rattle.parser.proofs.emit.Statement.{statement}
 use Rattle.parser.proofs.emit.Tie as tie
 
 parse-unchecked-requires : tie.Need-parse-unchecked-requires
-parse-unchecked-requires c κs = c .before .before .before .before .before .before .before .pre
+parse-unchecked-requires c κs = c .before .before .before .before .before .pre
 
 enum-known-block : tie.Need-enum-known-block
 enum-known-block c = search needs
@@ -27,13 +27,13 @@ same-length : tie.Need-same-length
 same-length c = search needs
 
 returns : tie.Need-returns
-returns c = emits-block _ _ _ _ _ _ _ _ _ _ _ _ (c .before .before .before .before .before .before .before .before .parse-unchecked .ensures) (search needs) (c .before .before .put-block .ensures)
+returns c = emits-block _ _ _ _ _ _ _ _ _ _ (c .before .before .before .before .before .before .before .before .parse-unchecked .ensures) (search needs) (c .before .before .put-block .ensures)
 
 returns-2 : tie.Need-returns-2
-returns-2 c = emits-none _ _ _ _ _ _ _ _ _ _ _ _ (c .before .before .parse-unchecked .ensures) (search needs) _ _ (search needs)
+returns-2 c = emits-none _ _ _ _ _ _ _ _ _ _ (c .before .before .parse-unchecked .ensures) (search needs) _ _ (search needs)
 
 returns-3 : tie.Need-returns-3
-returns-3 c = emits-refusal _ _ _ _ _ _ _ _ _ _ _ _ (c .before .before .before .parse-unchecked .ensures) (search needs) _ _ (search needs)
+returns-3 c = emits-refusal _ _ _ _ _ _ _ _ _ _ (c .before .before .before .parse-unchecked .ensures) (search needs) _ _ (search needs)
 
 pub emit-spec : {M : Type 1} → statement M
 emit-spec =

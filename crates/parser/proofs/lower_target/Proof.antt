@@ -22,7 +22,7 @@ slice-aggregate-parse-2 c = search needs
 
 parse-requires : tie.Need-parse-requires
 parse-requires c κs =
-    (c .before .before .before .before .before .before .before .before .before .before .before .before .before .before .before .pre, gathered-names _ _ _ _ (c .before .before .before .before .before .conditions .ensures) (c .before .before .before .before .before .before .before .before .before .before .before .before .before .before .before .pre .0) (c .before .before .before .before .before .before .before .before .before .before .before .before .before .before .before .pre .0))
+    (c .before .before .before .before .before .before .before .before .before .before .before .before .before .pre, gathered-names _ _ _ _ (c .before .before .before .before .before .conditions .ensures) (c .before .before .before .before .before .before .before .before .before .before .before .before .before .pre .0) (c .before .before .before .before .before .before .before .before .before .before .before .before .before .pre .0))
 
 same-length : tie.Need-same-length
 same-length c = search needs

@@ -10,11 +10,11 @@ use Rattle.parser.proofs.parse.Statement.{statement}
 use Rattle.parser.proofs.parse.Tie as tie
 
 abbrev Inv-loop : tie.InvT-loop
-Inv-loop rec out₀ at order m places own parents payloads fields i n starts ends conds kinds₀ t₀ p₀ k₀ out kinds t p k =
-    (k ≤ n) × Run rec places own parents payloads fields i n order m out₀ at out p k t kinds
+Inv-loop rec out₀ at order m rows values fields i n starts ends conds kinds₀ t₀ p₀ k₀ out kinds t p k =
+    (k ≤ n) × Run rec rows values fields i n order m out₀ at out p k t kinds
 
 abbrev μ-loop : tie.MeasureT-loop
-μ-loop rec out₀ at order m places own parents payloads fields i n starts ends conds kinds₀ t₀ p₀ k₀ out kinds t p k =
+μ-loop rec out₀ at order m rows values fields i n starts ends conds kinds₀ t₀ p₀ k₀ out kinds t p k =
     n - k
 
 new-requires : tie.Need-new-requires Inv-loop μ-loop
@@ -22,7 +22,7 @@ new-requires c κs = search needs
 
 loop-holds : tie.Need-loop-holds Inv-loop μ-loop
 loop-holds c =
-    (search needs, run-start _ _ _ _ _ _ _ _ _ _ _ _ (c .before .before .before .before .before .before .before .before .before .before .pre .0 .1) (c .new .ensures) (search needs))
+    (search needs, run-start _ _ _ _ _ _ _ _ _ _ (c .before .before .before .before .before .before .before .before .pre .0 .1) (c .new .ensures) (search needs))
 
 field-in-requires : tie.Need-field-in-requires Inv-loop μ-loop
 field-in-requires c κs = search needs
@@ -35,27 +35,27 @@ kind-of-requires c κs = search needs
 
 mul-kinds : tie.Need-mul-kinds Inv-loop μ-loop
 mul-kinds c =
-    record { fits = omega (arith, room _ _ _ _ _ _ _ _ (c .before .before .before .before .before .before .before .before .before .before .before .before .before .before .before .before .before .args .order) _ _ (run-ready _ _ _ _ _ _ _ _ _ _ _ _ _ _ _ _ _ (c .before .before .before .before .before .before .loop .inv .1) (c .before .before .before .before .before .before .before .before .before .before .before .before .before .before .before .before .before .pre .0) (c .before .before .before .before .before .loop-test .taken))) }
+    record { fits = omega (arith, room _ _ _ _ _ _ (c .before .before .before .before .before .before .before .before .before .before .before .before .before .before .before .args .order) _ _ (run-ready _ _ _ _ _ _ _ _ _ _ _ _ _ _ _ (c .before .before .before .before .before .before .loop .inv .1) (c .before .before .before .before .before .before .before .before .before .before .before .before .before .before .before .pre .0) (c .before .before .before .before .before .loop-test .taken))) }
 
 array-set-from-kinds : tie.Need-array-set-from-kinds Inv-loop μ-loop
 array-set-from-kinds c =
-    room _ _ _ _ _ _ _ _ (c .before .before .before .before .before .before .before .before .before .before .before .before .before .before .before .before .before .args .order) _ _ (run-ready _ _ _ _ _ _ _ _ _ _ _ _ _ _ _ _ _ (c .before .before .before .before .before .before .loop .inv .1) (c .before .before .before .before .before .before .before .before .before .before .before .before .before .before .before .before .before .pre .0) (c .before .before .before .before .before .loop-test .taken))
+    room _ _ _ _ _ _ (c .before .before .before .before .before .before .before .before .before .before .before .before .before .before .before .args .order) _ _ (run-ready _ _ _ _ _ _ _ _ _ _ _ _ _ _ _ (c .before .before .before .before .before .before .loop .inv .1) (c .before .before .before .before .before .before .before .before .before .before .before .before .before .before .before .pre .0) (c .before .before .before .before .before .loop-test .taken))
 
 grow-requires : tie.Need-grow-requires Inv-loop μ-loop
 grow-requires c κs = (
-  (c .before .before .before .before .before .loop-test .taken, c .before .before .before .before .before .before .before .before .before .before .before .before .before .before .before .before .before .pre .0 .1),
+  (c .before .before .before .before .before .loop-test .taken, c .before .before .before .before .before .before .before .before .before .before .before .before .before .before .before .pre .0 .1),
   (
     c .before .before .before .before .field-in .ensures,
     (
-      room _ _ _ _ _ _ _ _ (c .before .before .before .before .before .before .before .before .before .before .before .before .before .before .before .before .before .args .order) _ _ (run-ready _ _ _ _ _ _ _ _ _ _ _ _ _ _ _ _ _ (c .before .before .before .before .before .before .loop .inv .1) (c .before .before .before .before .before .before .before .before .before .before .before .before .before .before .before .before .before .pre .0) (c .before .before .before .before .before .loop-test .taken)),
-      sum-fits _ _ _ _ _ _ _ _ (c .before .before .before .before .before .before .before .before .before .before .before .before .before .before .before .before .before .args .order) _ _ (run-ready _ _ _ _ _ _ _ _ _ _ _ _ _ _ _ _ _ (c .before .before .before .before .before .before .loop .inv .1) (c .before .before .before .before .before .before .before .before .before .before .before .before .before .before .before .before .before .pre .0) (c .before .before .before .before .before .loop-test .taken)),
+      room _ _ _ _ _ _ (c .before .before .before .before .before .before .before .before .before .before .before .before .before .before .before .args .order) _ _ (run-ready _ _ _ _ _ _ _ _ _ _ _ _ _ _ _ (c .before .before .before .before .before .before .loop .inv .1) (c .before .before .before .before .before .before .before .before .before .before .before .before .before .before .before .pre .0) (c .before .before .before .before .before .loop-test .taken)),
+      sum-fits _ _ _ _ _ _ (c .before .before .before .before .before .before .before .before .before .before .before .before .before .before .before .args .order) _ _ (run-ready _ _ _ _ _ _ _ _ _ _ _ _ _ _ _ (c .before .before .before .before .before .before .loop .inv .1) (c .before .before .before .before .before .before .before .before .before .before .before .before .before .before .before .pre .0) (c .before .before .before .before .before .loop-test .taken)),
     ),
   ),
 )
 
 add-k : tie.Need-add-k Inv-loop μ-loop
 add-k c =
-    record { fits = omega (arith, c .before .before .before .before .before .before .before .before .loop-test .taken, c .before .before .before .before .before .before .before .before .before .before .before .before .before .before .before .before .before .before .before .before .pre .0 .0) }
+    record { fits = omega (arith, c .before .before .before .before .before .before .before .before .loop-test .taken, c .before .before .before .before .before .before .before .before .before .before .before .before .before .before .before .before .before .before .pre .0 .0) }
 
 loop-less : tie.Need-loop-less Inv-loop μ-loop
 loop-less c =
@@ -64,19 +64,19 @@ loop-less c =
 loop-again : tie.Need-loop-again Inv-loop μ-loop
 loop-again c = (
   omega (arith, c .before .before .before .before .before .before .before .before .loop-test .taken),
-  run-turn _ _ _ _ _ _ _ _ _ _ _ _ _ _ _ _ _ (c .before .before .before .before .before .before .before .before .before .loop .inv .1)
-      (bit-grows _ _ _ _ _ _ _ _ (c .before .before .before .before .before .before .before .before .before .before .before .before .before .before .before .before .before .before .before .before .args .order) _ _ (run-ready _ _ _ _ _ _ _ _ _ _ _ _ _ _ _ _ _ (c .before .before .before .before .before .before .before .before .before .loop .inv .1) (c .before .before .before .before .before .before .before .before .before .before .before .before .before .before .before .before .before .before .before .before .pre .0) (c .before .before .before .before .before .before .before .before .loop-test .taken)) _ (c .before .before .grow .ensures)
+  run-turn _ _ _ _ _ _ _ _ _ _ _ _ _ _ _ (c .before .before .before .before .before .before .before .before .before .loop .inv .1)
+      (bit-grows _ _ _ _ _ _ (c .before .before .before .before .before .before .before .before .before .before .before .before .before .before .before .before .before .before .args .order) _ _ (run-ready _ _ _ _ _ _ _ _ _ _ _ _ _ _ _ (c .before .before .before .before .before .before .before .before .before .loop .inv .1) (c .before .before .before .before .before .before .before .before .before .before .before .before .before .before .before .before .before .before .pre .0) (c .before .before .before .before .before .before .before .before .loop-test .taken)) _ (c .before .before .grow .ensures)
       (c .before .before .before .before .before .before .before .field-in .ensures)
-      (is-bit-yes _ _ _ _ _ _ _ _ _ _ _ (c .before .before .before .before .before .before .is-bit .ensures) (c .before .before .before .before .before .if1 .taken))
-      (c .before .before .before .before .before .before .before .before .before .before .before .before .before .before .before .before .before .before .before .before .pre .1)
+      (is-bit-yes _ _ _ _ _ _ _ _ _ (c .before .before .before .before .before .before .is-bit .ensures) (c .before .before .before .before .before .if1 .taken))
+      (c .before .before .before .before .before .before .before .before .before .before .before .before .before .before .before .before .before .before .pre .1)
       (c .before .before .before .before .kind-of .ensures)
-      _ _ (c .if2 .taken) (run-room _ _ _ _ _ _ _ _ _ _ _ _ _ _ _ _ _ (c .before .before .before .before .before .before .before .before .before .loop .inv .1))) refl,
+      _ _ (c .if2 .taken) (run-room _ _ _ _ _ _ _ _ _ _ _ _ _ _ _ (c .before .before .before .before .before .before .before .before .before .loop .inv .1))) refl,
 )
 
 parse-bit-field-requires : tie.Need-parse-bit-field-requires Inv-loop μ-loop
 parse-bit-field-requires c κs = (
-  (c .before .before .before .before .before .before .before .before .before .loop-test .taken, c .before .before .before .before .before .before .before .before .before .before .before .before .before .before .before .before .before .before .before .before .before .pre .0 .1),
-  bit-closing _ _ _ _ _ _ _ _ (c .before .before .before .before .before .before .before .before .before .before .before .before .before .before .before .before .before .before .before .before .before .args .order) _ _ (run-ready _ _ _ _ _ _ _ _ _ _ _ _ _ _ _ _ _ (c .before .before .before .before .before .before .before .before .before .before .loop .inv .1) (c .before .before .before .before .before .before .before .before .before .before .before .before .before .before .before .before .before .before .before .before .before .pre .0) (c .before .before .before .before .before .before .before .before .before .loop-test .taken)) _ (c .before .before .before .grow .ensures),
+  (c .before .before .before .before .before .before .before .before .before .loop-test .taken, c .before .before .before .before .before .before .before .before .before .before .before .before .before .before .before .before .before .before .before .pre .0 .1),
+  bit-closing _ _ _ _ _ _ (c .before .before .before .before .before .before .before .before .before .before .before .before .before .before .before .before .before .before .before .args .order) _ _ (run-ready _ _ _ _ _ _ _ _ _ _ _ _ _ _ _ (c .before .before .before .before .before .before .before .before .before .before .loop .inv .1) (c .before .before .before .before .before .before .before .before .before .before .before .before .before .before .before .before .before .before .before .pre .0) (c .before .before .before .before .before .before .before .before .before .loop-test .taken)) _ (c .before .before .before .grow .ensures),
 )
 
 enum-known-verdict : tie.Need-enum-known-verdict Inv-loop μ-loop
@@ -84,21 +84,21 @@ enum-known-verdict c = search needs
 
 same-length : tie.Need-same-length Inv-loop μ-loop
 same-length c =
-    run-kept _ _ _ _ _ _ _ _ _ _ _ _ _ _ _ _ _ (c .before .before .before .before .before .before .before .before .before .before .before .before .before .before .before .before .loop .inv .1)
-    (bit-closes _ _ _ _ _ _ _ _ (c .before .before .before .before .before .before .before .before .before .before .before .before .before .before .before .before .before .before .before .before .before .before .before .before .before .before .before .args .order) _ _ (run-ready _ _ _ _ _ _ _ _ _ _ _ _ _ _ _ _ _ (c .before .before .before .before .before .before .before .before .before .before .before .before .before .before .before .before .loop .inv .1) (c .before .before .before .before .before .before .before .before .before .before .before .before .before .before .before .before .before .before .before .before .before .before .before .before .before .before .before .pre .0) (c .before .before .before .before .before .before .before .before .before .before .before .before .before .before .before .loop-test .taken)) _ (c .before .before .before .before .before .before .before .before .before .grow .ensures)
+    run-kept _ _ _ _ _ _ _ _ _ _ _ _ _ _ _ (c .before .before .before .before .before .before .before .before .before .before .before .before .before .before .before .before .loop .inv .1)
+    (bit-closes _ _ _ _ _ _ (c .before .before .before .before .before .before .before .before .before .before .before .before .before .before .before .before .before .before .before .before .before .before .before .before .before .args .order) _ _ (run-ready _ _ _ _ _ _ _ _ _ _ _ _ _ _ _ (c .before .before .before .before .before .before .before .before .before .before .before .before .before .before .before .before .loop .inv .1) (c .before .before .before .before .before .before .before .before .before .before .before .before .before .before .before .before .before .before .before .before .before .before .before .before .before .pre .0) (c .before .before .before .before .before .before .before .before .before .before .before .before .before .before .before .loop-test .taken)) _ (c .before .before .before .before .before .before .before .before .before .grow .ensures)
     (c .before .before .before .before .before .before .before .before .before .before .before .before .before .before .field-in .ensures)
-    (is-bit-yes _ _ _ _ _ _ _ _ _ _ _ (c .before .before .before .before .before .before .before .before .before .before .before .before .before .is-bit .ensures) (c .before .before .before .before .before .before .before .before .before .before .before .before .if1 .taken))
-    (c .before .before .before .before .before .before .before .before .before .before .before .before .before .before .before .before .before .before .before .before .before .before .before .before .before .before .before .pre .1)
+    (is-bit-yes _ _ _ _ _ _ _ _ _ (c .before .before .before .before .before .before .before .before .before .before .before .before .before .is-bit .ensures) (c .before .before .before .before .before .before .before .before .before .before .before .before .if1 .taken))
+    (c .before .before .before .before .before .before .before .before .before .before .before .before .before .before .before .before .before .before .before .before .before .before .before .before .before .pre .1)
     (c .before .before .before .before .before .before .before .before .before .before .before .kind-of .ensures)
     (c .before .before .before .before .before .before .before .if2 .left) (c .before .before .before .before .before .parse-bit-field .ensures))
 
 returns : tie.Need-returns Inv-loop μ-loop
 returns c =
-    run-stop _ _ _ _ _ _ _ _ _ _ _ _ _ _ _ _ _ (c .before .before .before .before .before .before .before .before .before .before .before .before .before .before .before .before .loop .inv .1)
-    (bit-closes _ _ _ _ _ _ _ _ (c .before .before .before .before .before .before .before .before .before .before .before .before .before .before .before .before .before .before .before .before .before .before .before .before .before .before .before .args .order) _ _ (run-ready _ _ _ _ _ _ _ _ _ _ _ _ _ _ _ _ _ (c .before .before .before .before .before .before .before .before .before .before .before .before .before .before .before .before .loop .inv .1) (c .before .before .before .before .before .before .before .before .before .before .before .before .before .before .before .before .before .before .before .before .before .before .before .before .before .before .before .pre .0) (c .before .before .before .before .before .before .before .before .before .before .before .before .before .before .before .loop-test .taken)) _ (c .before .before .before .before .before .before .before .before .before .grow .ensures)
+    run-stop _ _ _ _ _ _ _ _ _ _ _ _ _ _ _ (c .before .before .before .before .before .before .before .before .before .before .before .before .before .before .before .before .loop .inv .1)
+    (bit-closes _ _ _ _ _ _ (c .before .before .before .before .before .before .before .before .before .before .before .before .before .before .before .before .before .before .before .before .before .before .before .before .before .args .order) _ _ (run-ready _ _ _ _ _ _ _ _ _ _ _ _ _ _ _ (c .before .before .before .before .before .before .before .before .before .before .before .before .before .before .before .before .loop .inv .1) (c .before .before .before .before .before .before .before .before .before .before .before .before .before .before .before .before .before .before .before .before .before .before .before .before .before .pre .0) (c .before .before .before .before .before .before .before .before .before .before .before .before .before .before .before .loop-test .taken)) _ (c .before .before .before .before .before .before .before .before .before .grow .ensures)
     (c .before .before .before .before .before .before .before .before .before .before .before .before .before .before .field-in .ensures)
-    (is-bit-yes _ _ _ _ _ _ _ _ _ _ _ (c .before .before .before .before .before .before .before .before .before .before .before .before .before .is-bit .ensures) (c .before .before .before .before .before .before .before .before .before .before .before .before .if1 .taken))
-    (c .before .before .before .before .before .before .before .before .before .before .before .before .before .before .before .before .before .before .before .before .before .before .before .before .before .before .before .pre .1)
+    (is-bit-yes _ _ _ _ _ _ _ _ _ (c .before .before .before .before .before .before .before .before .before .before .before .before .before .is-bit .ensures) (c .before .before .before .before .before .before .before .before .before .before .before .before .if1 .taken))
+    (c .before .before .before .before .before .before .before .before .before .before .before .before .before .before .before .before .before .before .before .before .before .before .before .before .before .pre .1)
     (c .before .before .before .before .before .before .before .before .before .before .before .kind-of .ensures)
     (c .before .before .before .before .before .before .before .if2 .left) (c .before .before .before .before .before .parse-bit-field .ensures)) (search needs)
 
@@ -107,7 +107,7 @@ enum-told c = search needs
 
 add-k-2 : tie.Need-add-k-2 Inv-loop μ-loop
 add-k-2 c =
-    record { fits = omega (arith, c .before .before .before .before .before .before .before .before .before .before .before .before .before .before .before .loop-test .taken, c .before .before .before .before .before .before .before .before .before .before .before .before .before .before .before .before .before .before .before .before .before .before .before .before .before .before .before .pre .0 .0) }
+    record { fits = omega (arith, c .before .before .before .before .before .before .before .before .before .before .before .before .before .before .before .loop-test .taken, c .before .before .before .before .before .before .before .before .before .before .before .before .before .before .before .before .before .before .before .before .before .before .before .before .before .pre .0 .0) }
 
 loop-less-2 : tie.Need-loop-less-2 Inv-loop μ-loop
 loop-less-2 c =
@@ -116,19 +116,19 @@ loop-less-2 c =
 loop-again-2 : tie.Need-loop-again-2 Inv-loop μ-loop
 loop-again-2 c = (
   omega (arith, c .before .before .before .before .before .before .before .before .before .before .before .before .before .before .before .loop-test .taken),
-  run-turn _ _ _ _ _ _ _ _ _ _ _ _ _ _ _ _ _ (c .before .before .before .before .before .before .before .before .before .before .before .before .before .before .before .before .loop .inv .1)
-      (bit-closes _ _ _ _ _ _ _ _ (c .before .before .before .before .before .before .before .before .before .before .before .before .before .before .before .before .before .before .before .before .before .before .before .before .before .before .before .args .order) _ _ (run-ready _ _ _ _ _ _ _ _ _ _ _ _ _ _ _ _ _ (c .before .before .before .before .before .before .before .before .before .before .before .before .before .before .before .before .loop .inv .1) (c .before .before .before .before .before .before .before .before .before .before .before .before .before .before .before .before .before .before .before .before .before .before .before .before .before .before .before .pre .0) (c .before .before .before .before .before .before .before .before .before .before .before .before .before .before .before .loop-test .taken)) _ (c .before .before .before .before .before .before .before .before .before .grow .ensures)
+  run-turn _ _ _ _ _ _ _ _ _ _ _ _ _ _ _ (c .before .before .before .before .before .before .before .before .before .before .before .before .before .before .before .before .loop .inv .1)
+      (bit-closes _ _ _ _ _ _ (c .before .before .before .before .before .before .before .before .before .before .before .before .before .before .before .before .before .before .before .before .before .before .before .before .before .args .order) _ _ (run-ready _ _ _ _ _ _ _ _ _ _ _ _ _ _ _ (c .before .before .before .before .before .before .before .before .before .before .before .before .before .before .before .before .loop .inv .1) (c .before .before .before .before .before .before .before .before .before .before .before .before .before .before .before .before .before .before .before .before .before .before .before .before .before .pre .0) (c .before .before .before .before .before .before .before .before .before .before .before .before .before .before .before .loop-test .taken)) _ (c .before .before .before .before .before .before .before .before .before .grow .ensures)
       (c .before .before .before .before .before .before .before .before .before .before .before .before .before .before .field-in .ensures)
-      (is-bit-yes _ _ _ _ _ _ _ _ _ _ _ (c .before .before .before .before .before .before .before .before .before .before .before .before .before .is-bit .ensures) (c .before .before .before .before .before .before .before .before .before .before .before .before .if1 .taken))
-      (c .before .before .before .before .before .before .before .before .before .before .before .before .before .before .before .before .before .before .before .before .before .before .before .before .before .before .before .pre .1)
+      (is-bit-yes _ _ _ _ _ _ _ _ _ (c .before .before .before .before .before .before .before .before .before .before .before .before .before .is-bit .ensures) (c .before .before .before .before .before .before .before .before .before .before .before .before .if1 .taken))
+      (c .before .before .before .before .before .before .before .before .before .before .before .before .before .before .before .before .before .before .before .before .before .before .before .before .before .pre .1)
       (c .before .before .before .before .before .before .before .before .before .before .before .kind-of .ensures)
       (c .before .before .before .before .before .before .before .if2 .left) (c .before .before .before .before .before .parse-bit-field .ensures)) (search needs),
 )
 
 parse-other-field-requires : tie.Need-parse-other-field-requires Inv-loop μ-loop
 parse-other-field-requires c κs = (
-  (c .before .before .before .before .loop-test .taken, c .before .before .before .before .before .before .before .before .before .before .before .before .before .before .before .before .pre .0 .1),
-  is-bit-no _ _ _ _ _ _ _ _ _ _ _ (c .before .before .is-bit .ensures) (c .before .if1 .left) (c .before .before .before .field-in .ensures),
+  (c .before .before .before .before .loop-test .taken, c .before .before .before .before .before .before .before .before .before .before .before .before .before .before .pre .0 .1),
+  is-bit-no _ _ _ _ _ _ _ _ _ (c .before .before .is-bit .ensures) (c .before .if1 .left) (c .before .before .before .field-in .ensures),
 )
 
 enum-known-verdict-2 : tie.Need-enum-known-verdict-2 Inv-loop μ-loop
@@ -139,14 +139,14 @@ same-length-2 c = search needs
 
 returns-2 : tie.Need-returns-2 Inv-loop μ-loop
 returns-2 c =
-    run-stop _ _ _ _ _ _ _ _ _ _ _ _ _ _ _ _ _ (c .before .before .before .before .before .before .before .before .before .before .before .loop .inv .1) (c .before .before .before .before .before .parse-other-field .ensures _ (run-ready _ _ _ _ _ _ _ _ _ _ _ _ _ _ _ _ _ (c .before .before .before .before .before .before .before .before .before .before .before .loop .inv .1) (c .before .before .before .before .before .before .before .before .before .before .before .before .before .before .before .before .before .before .before .before .before .before .pre .0) (c .before .before .before .before .before .before .before .before .before .before .loop-test .taken))) (search needs)
+    run-stop _ _ _ _ _ _ _ _ _ _ _ _ _ _ _ (c .before .before .before .before .before .before .before .before .before .before .before .loop .inv .1) (c .before .before .before .before .before .parse-other-field .ensures _ (run-ready _ _ _ _ _ _ _ _ _ _ _ _ _ _ _ (c .before .before .before .before .before .before .before .before .before .before .before .loop .inv .1) (c .before .before .before .before .before .before .before .before .before .before .before .before .before .before .before .before .before .before .before .before .pre .0) (c .before .before .before .before .before .before .before .before .before .before .loop-test .taken))) (search needs)
 
 enum-told-2 : tie.Need-enum-told-2 Inv-loop μ-loop
 enum-told-2 c = search needs
 
 add-k-3 : tie.Need-add-k-3 Inv-loop μ-loop
 add-k-3 c =
-    record { fits = omega (arith, c .before .before .before .before .before .before .before .before .before .before .loop-test .taken, c .before .before .before .before .before .before .before .before .before .before .before .before .before .before .before .before .before .before .before .before .before .before .pre .0 .0) }
+    record { fits = omega (arith, c .before .before .before .before .before .before .before .before .before .before .loop-test .taken, c .before .before .before .before .before .before .before .before .before .before .before .before .before .before .before .before .before .before .before .before .pre .0 .0) }
 
 loop-less-3 : tie.Need-loop-less-3 Inv-loop μ-loop
 loop-less-3 c =
@@ -154,7 +154,7 @@ loop-less-3 c =
 
 loop-again-3 : tie.Need-loop-again-3 Inv-loop μ-loop
 loop-again-3 c =
-    (omega (arith, c .before .before .before .before .before .before .before .before .before .before .loop-test .taken), run-turn _ _ _ _ _ _ _ _ _ _ _ _ _ _ _ _ _ (c .before .before .before .before .before .before .before .before .before .before .before .loop .inv .1) (c .before .before .before .before .before .parse-other-field .ensures _ (run-ready _ _ _ _ _ _ _ _ _ _ _ _ _ _ _ _ _ (c .before .before .before .before .before .before .before .before .before .before .before .loop .inv .1) (c .before .before .before .before .before .before .before .before .before .before .before .before .before .before .before .before .before .before .before .before .before .before .pre .0) (c .before .before .before .before .before .before .before .before .before .before .loop-test .taken))) (search needs))
+    (omega (arith, c .before .before .before .before .before .before .before .before .before .before .loop-test .taken), run-turn _ _ _ _ _ _ _ _ _ _ _ _ _ _ _ (c .before .before .before .before .before .before .before .before .before .before .before .loop .inv .1) (c .before .before .before .before .before .parse-other-field .ensures _ (run-ready _ _ _ _ _ _ _ _ _ _ _ _ _ _ _ (c .before .before .before .before .before .before .before .before .before .before .before .loop .inv .1) (c .before .before .before .before .before .before .before .before .before .before .before .before .before .before .before .before .before .before .before .before .pre .0) (c .before .before .before .before .before .before .before .before .before .before .loop-test .taken))) (search needs))
 
 done-requires : tie.Need-done-requires Inv-loop μ-loop
 done-requires c κs = search needs
@@ -164,7 +164,7 @@ same-length-3 c = search needs
 
 returns-3 : tie.Need-returns-3 Inv-loop μ-loop
 returns-3 c =
-    run-done _ _ _ _ _ _ _ _ _ _ _ _ _ _ _ _ _ (c .before .before .loop .inv .1) (c .before .loop-test .left) _ (c .done .ensures)
+    run-done _ _ _ _ _ _ _ _ _ _ _ _ _ _ _ (c .before .before .loop .inv .1) (c .before .loop-test .left) _ (c .done .ensures)
 
 pub parse-spec : {M : Type 1} → statement M
 parse-spec =

@@ -6,14 +6,14 @@ use Rattle.parser.proofs.parse_bit_field.Statement.{statement}
 use Rattle.parser.proofs.parse_bit_field.Tie as tie
 
 later-bits-requires : tie.Need-later-bits-requires
-later-bits-requires c κs = c .before .before .before .before .before .before .before .pre .0
+later-bits-requires c κs = c .before .before .before .before .before .pre .0
 
 slice-aggregate-close : tie.Need-slice-aggregate-close
 slice-aggregate-close c = search needs
 
 close-requires : tie.Need-close-requires
 close-requires c κs =
-    closing-with _ _ (c .before .before .before .before .before .before .before .before .before .before .args .order) _ _ (c .before .before .later-bits .ensures _ _) (c .before .before .before .before .before .before .before .before .before .before .pre .1)
+    closing-with _ _ (c .before .before .before .before .before .before .before .before .args .order) _ _ (c .before .before .later-bits .ensures _ _) (c .before .before .before .before .before .before .before .before .pre .1)
 
 same-length : tie.Need-same-length
 same-length c = search needs

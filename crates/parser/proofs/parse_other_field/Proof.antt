@@ -15,12 +15,12 @@ enum-told : tie.Need-enum-told
 enum-told c = search needs
 
 emit-requires : tie.Need-emit-requires
-emit-requires c κs = c .before .before .before .before .before .before .before .before .before .before .before .before .pre .0
+emit-requires c κs = c .before .before .before .before .before .before .before .before .before .before .pre .0
 
 returns : tie.Need-returns
 returns c =
-    λ kinds turn. other-open _ _ _ _ _ _ _ _ _ _ _
-    (c .before .before .before .before .before .before .before .before .before .before .before .before .pre .1)
+    λ kinds turn. other-open _ _ _ _ _ _ _ _ _
+    (c .before .before .before .before .before .before .before .before .before .before .pre .1)
     (c .before .before .before .before .check-code .ensures)
     kinds turn (search needs) _ _ (search needs)
 
@@ -29,8 +29,8 @@ same-length c = search needs
 
 returns-2 : tie.Need-returns-2
 returns-2 c =
-    λ kinds turn. other-goes _ _ _ _ _ _ _ _ _ _ _
-    (c .before .before .before .before .before .before .before .before .before .before .before .before .before .before .before .pre .1)
+    λ kinds turn. other-goes _ _ _ _ _ _ _ _ _
+    (c .before .before .before .before .before .before .before .before .before .before .before .before .before .pre .1)
     (c .before .before .before .before .before .before .before .check-code .ensures)
     kinds turn (search needs)
     (c .before .before .emit .ensures)

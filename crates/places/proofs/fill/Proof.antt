@@ -8,10 +8,10 @@ use Rattle.places.proofs.fill.Statement.{statement}
 use Rattle.places.proofs.fill.Tie as tie
 
 abbrev Inv-loop : tie.InvT-loop
-Inv-loop s at places₀ fields₀ counts₀ p₀ i₀ places fields counts p i = Reading s at places₀ fields₀ counts₀ places fields counts p i
+Inv-loop s at rows₀ values₀ fields₀ p₀ i₀ rows values fields p i = Reading s at rows₀ values₀ fields₀ rows values fields p i
 
 abbrev μ-loop : tie.MeasureT-loop
-μ-loop s at places₀ fields₀ counts₀ p₀ i₀ places fields counts p i = length s - i
+μ-loop s at rows₀ values₀ fields₀ p₀ i₀ rows values fields p i = length s - i
 
 loop-holds : tie.Need-loop-holds Inv-loop μ-loop
 loop-holds c = search (reading-start, needs)
@@ -35,7 +35,7 @@ same-length-3 : tie.Need-same-length-3 Inv-loop μ-loop
 same-length-3 c = search needs
 
 returns : tie.Need-returns Inv-loop μ-loop
-returns c = search (reading-out, reading-wrong, reading-bad, needs)
+returns c = search (reading-wrong, needs)
 
 mul-fill-behind : tie.Need-mul-fill-behind Inv-loop μ-loop
 mul-fill-behind c = search needs
@@ -59,13 +59,10 @@ same-length-6 : tie.Need-same-length-6 Inv-loop μ-loop
 same-length-6 c = search needs
 
 returns-2 : tie.Need-returns-2 Inv-loop μ-loop
-returns-2 c = search (reading-out, reading-wrong, reading-bad, needs)
+returns-2 c = search (reading-bad, needs)
 
-put-requires : tie.Need-put-requires Inv-loop μ-loop
-put-requires c κs = search needs
-
-put-requires-2 : tie.Need-put-requires-2 Inv-loop μ-loop
-put-requires-2 c κs = search needs
+put-decl-requires : tie.Need-put-decl-requires Inv-loop μ-loop
+put-decl-requires c κs = search needs
 
 add-i : tie.Need-add-i Inv-loop μ-loop
 add-i c = search needs
@@ -98,7 +95,7 @@ same-length-12 : tie.Need-same-length-12 Inv-loop μ-loop
 same-length-12 c = search needs
 
 returns-4 : tie.Need-returns-4 Inv-loop μ-loop
-returns-4 c = search (reading-out, reading-wrong, reading-bad, needs)
+returns-4 c = search (reading-out, needs)
 
 pub fill-spec : {M : Type 1} → statement M
 fill-spec =
@@ -122,8 +119,7 @@ fill-spec =
     same-length-5
     same-length-6
     returns-2
-    put-requires
-    put-requires-2
+    put-decl-requires
     add-i
     same-length-7
     same-length-8

@@ -8,10 +8,10 @@ use Rattle.places.proofs.fill_fields.Statement.{statement}
 use Rattle.places.proofs.fill_fields.Tie as tie
 
 abbrev Inv-loop : tie.InvT-loop
-Inv-loop s at table₀ base p₀ n₀ t8 table p n = Left s at table₀ table base n p
+Inv-loop s at values₀ fields₀ base p₀ n₀ t8 values fields p n = Left s at values₀ fields₀ values fields base n p
 
 abbrev μ-loop : tie.MeasureT-loop
-μ-loop s at table₀ base p₀ n₀ t8 table p n = length s - n
+μ-loop s at values₀ fields₀ base p₀ n₀ t8 values fields p n = length s - n
 
 loop-holds : tie.Need-loop-holds Inv-loop μ-loop
 loop-holds c = search (left-start, needs)
@@ -31,23 +31,32 @@ enum-told-2 c = search needs
 same-length : tie.Need-same-length Inv-loop μ-loop
 same-length c = search needs
 
+same-length-2 : tie.Need-same-length-2 Inv-loop μ-loop
+same-length-2 c = search needs
+
 returns : tie.Need-returns Inv-loop μ-loop
 returns c = search (left-end, needs)
 
 field-at-requires : tie.Need-field-at-requires Inv-loop μ-loop
 field-at-requires c κs = search needs
 
-enum-known-q : tie.Need-enum-known-q Inv-loop μ-loop
-enum-known-q c = search needs
+enum-known-x : tie.Need-enum-known-x Inv-loop μ-loop
+enum-known-x c = search needs
 
 enum-told-3 : tie.Need-enum-told-3 Inv-loop μ-loop
 enum-told-3 c = search needs
 
-same-length-2 : tie.Need-same-length-2 Inv-loop μ-loop
-same-length-2 c = search needs
+same-length-3 : tie.Need-same-length-3 Inv-loop μ-loop
+same-length-3 c = search needs
+
+same-length-4 : tie.Need-same-length-4 Inv-loop μ-loop
+same-length-4 c = search needs
 
 returns-2 : tie.Need-returns-2 Inv-loop μ-loop
-returns-2 c = search (left-out, left-wrong, needs)
+returns-2 c = search (left-wrong, needs)
+
+put-field-requires : tie.Need-put-field-requires Inv-loop μ-loop
+put-field-requires c κs = search needs
 
 add-put : tie.Need-add-put Inv-loop μ-loop
 add-put c = search needs
@@ -64,11 +73,14 @@ loop-less c = search needs
 loop-again : tie.Need-loop-again Inv-loop μ-loop
 loop-again c = search (left-turn, needs)
 
-same-length-3 : tie.Need-same-length-3 Inv-loop μ-loop
-same-length-3 c = search needs
+same-length-5 : tie.Need-same-length-5 Inv-loop μ-loop
+same-length-5 c = search needs
+
+same-length-6 : tie.Need-same-length-6 Inv-loop μ-loop
+same-length-6 c = search needs
 
 returns-3 : tie.Need-returns-3 Inv-loop μ-loop
-returns-3 c = search (left-out, left-wrong, needs)
+returns-3 c = search (left-out, needs)
 
 pub fill-fields-spec : {M : Type 1} → statement M
 fill-fields-spec =
@@ -82,16 +94,20 @@ fill-fields-spec =
     enum-told
     enum-told-2
     same-length
+    same-length-2
     returns
     field-at-requires
-    enum-known-q
+    enum-known-x
     enum-told-3
-    same-length-2
+    same-length-3
+    same-length-4
     returns-2
+    put-field-requires
     add-put
     put-requires
     add-n
     loop-less
     loop-again
-    same-length-3
+    same-length-5
+    same-length-6
     returns-3)

@@ -3,7 +3,7 @@
 use Prim.Native.Nat.{_+_, _-_}
 use mathlib.Core.Path.{_≡_}
 use Rattle.definitions.specs.Bytes.{any}
-use Rattle.definitions.specs.Tables.{fieldsFrom}
+use Rattle.tables.specs.Tables.{fieldsFrom}
 use Rattle.ranges.specs.Ranges.{badField}
 use Rattle.ranges.proofs.Tests.{field-end, field-found, field-turn, field-start}
 use borrow.Author.Needs.{needs}
@@ -11,10 +11,10 @@ use Rattle.ranges.proofs.bad_fields.Statement.{statement}
 use Rattle.ranges.proofs.bad_fields.Tie as tie
 
 abbrev Inv-loop : tie.InvT-loop
-Inv-loop rec fields base n k₀ k = any badField (fieldsFrom rec fields (base + k) (n - k)) ≡ any badField (fieldsFrom rec fields base n)
+Inv-loop values fields base n k₀ k = any badField (fieldsFrom values fields (base + k) (n - k)) ≡ any badField (fieldsFrom values fields base n)
 
 abbrev μ-loop : tie.MeasureT-loop
-μ-loop rec fields base n k₀ k = n - k
+μ-loop values fields base n k₀ k = n - k
 
 loop-holds : tie.Need-loop-holds Inv-loop μ-loop
 loop-holds c = search (field-start, needs)

@@ -5,9 +5,6 @@ use borrow.Author.Needs.{needs}
 use Rattle.ranges.proofs.bad_numbers.Statement.{statement}
 use Rattle.ranges.proofs.bad_numbers.Tie as tie
 
-get-requires : tie.Need-get-requires
-get-requires c κs = search needs
-
 decl-here-requires : tie.Need-decl-here-requires
 decl-here-requires c κs = search needs
 
@@ -17,8 +14,8 @@ bad-decl-requires c κs = search needs
 returns : tie.Need-returns
 returns c = search (decl-bad, decl-fields, needs)
 
-get-requires-2 : tie.Need-get-requires-2
-get-requires-2 c κs = search needs
+count-here-requires : tie.Need-count-here-requires
+count-here-requires c κs = search needs
 
 mul-bad-fields : tie.Need-mul-bad-fields
 mul-bad-fields c = search needs
@@ -33,11 +30,10 @@ pub bad-numbers-spec : {M : Type 1} → statement M
 bad-numbers-spec =
     tie.close
     (tie.spec
-    get-requires
     decl-here-requires
     bad-decl-requires
     returns
-    get-requires-2
+    count-here-requires
     mul-bad-fields
     bad-fields-requires
     returns-2)

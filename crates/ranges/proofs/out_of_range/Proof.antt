@@ -4,7 +4,7 @@ use Prim.Native.Nat.{_-_}
 use mathlib.Core.Path.{_≡_}
 use Rattle.definitions.specs.Bytes.{any}
 use Rattle.definitions.specs.Refusals.{outOfRange}
-use Rattle.definitions.specs.Tables.{declarationsFrom}
+use Rattle.tables.specs.Tables.{declarationsFrom}
 use Rattle.ranges.specs.Ranges.{badNumbers}
 use Rattle.ranges.proofs.Tests.{few-index, few-fields, range-end, range-found, range-turn, range-start}
 use borrow.Author.Needs.{needs}
@@ -12,10 +12,10 @@ use Rattle.ranges.proofs.out_of_range.Statement.{statement}
 use Rattle.ranges.proofs.out_of_range.Tie as tie
 
 abbrev Inv-loop : tie.InvT-loop
-Inv-loop rec places fields counts n i₀ i = any badNumbers (declarationsFrom rec places fields counts i (n - i)) ≡ outOfRange (declarationsFrom rec places fields counts 0 n)
+Inv-loop rows values fields n i₀ i = any badNumbers (declarationsFrom rows values fields i (n - i)) ≡ outOfRange (declarationsFrom rows values fields 0 n)
 
 abbrev μ-loop : tie.MeasureT-loop
-μ-loop rec places fields counts n i₀ i = n - i
+μ-loop rows values fields n i₀ i = n - i
 
 loop-holds : tie.Need-loop-holds Inv-loop μ-loop
 loop-holds c = search (range-start, needs)

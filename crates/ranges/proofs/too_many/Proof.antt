@@ -5,18 +5,18 @@ use mathlib.Core.List.{[]}
 use mathlib.Core.Path.{_≡_}
 use Rattle.definitions.specs.Bytes.{any}
 use Rattle.definitions.specs.Refusals.{tooMany}
-use Rattle.definitions.specs.Tables.{declarationsFrom}
-use Rattle.ranges.specs.Ranges.{counted}
+use Rattle.tables.specs.Tables.{declarationsFrom}
+use Rattle.ranges.specs.Ranges.{bare}
 use Rattle.ranges.proofs.Tests.{long, many-declarations, many-end, many-found, many-turn, many-start}
 use borrow.Author.Needs.{needs}
 use Rattle.ranges.proofs.too_many.Statement.{statement}
 use Rattle.ranges.proofs.too_many.Tie as tie
 
 abbrev Inv-loop : tie.InvT-loop
-Inv-loop counts n i₀ i = any long (declarationsFrom [] [] [] counts i (n - i)) ≡ tooMany (counted counts n)
+Inv-loop rows n i₀ i = any long (declarationsFrom rows [] [] i (n - i)) ≡ tooMany (bare rows n)
 
 abbrev μ-loop : tie.MeasureT-loop
-μ-loop counts n i₀ i = n - i
+μ-loop rows n i₀ i = n - i
 
 returns : tie.Need-returns Inv-loop μ-loop
 returns c = search (many-declarations, many-found, needs)
@@ -24,8 +24,8 @@ returns c = search (many-declarations, many-found, needs)
 loop-holds : tie.Need-loop-holds Inv-loop μ-loop
 loop-holds c = search (many-start, needs)
 
-get-requires : tie.Need-get-requires Inv-loop μ-loop
-get-requires c κs = search needs
+count-here-requires : tie.Need-count-here-requires Inv-loop μ-loop
+count-here-requires c κs = search needs
 
 returns-2 : tie.Need-returns-2 Inv-loop μ-loop
 returns-2 c = search (many-declarations, many-found, needs)
@@ -50,7 +50,7 @@ too-many-spec =
     μ-loop
     returns
     loop-holds
-    get-requires
+    count-here-requires
     returns-2
     add-i
     loop-less

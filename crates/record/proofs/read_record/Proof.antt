@@ -8,8 +8,11 @@ use Rattle.record.proofs.read_record.Tie as tie
 read-tables-requires : tie.Need-read-tables-requires
 read-tables-requires c κs = search needs
 
+same-length : tie.Need-same-length
+same-length c = search needs
+
 returns : tie.Need-returns
-returns c = of-record (record { declarations = search needs; fields = search needs; counts = search needs }) (c .read-tables .ensures)
+returns c = search (of-record, needs)
 
 pub read-record-spec : {M : Type 1} → statement M
-read-record-spec = tie.close (tie.spec read-tables-requires returns)
+read-record-spec = tie.close (tie.spec read-tables-requires same-length returns)

@@ -1,6 +1,6 @@
 -- `record::read_verdict` meets its contract, by the laws of Verdicts.
 -- Assumes nothing.
-use Rattle.record.proofs.Verdicts.{not-met, few-declared, refuse-many, refuse-duplicate, refuse-unknown, refuse-range, refuse-none}
+use Rattle.record.proofs.Verdicts.{not-met, refuse-many, refuse-duplicate, refuse-unknown, refuse-range, refuse-none}
 use borrow.Author.Needs.{needs}
 use Rattle.record.proofs.read_verdict.Statement.{statement}
 use Rattle.record.proofs.read_verdict.Tie as tie
@@ -12,7 +12,7 @@ returns : tie.Need-returns
 returns c = search (refuse-many, needs)
 
 duplicate-name-requires : tie.Need-duplicate-name-requires
-duplicate-name-requires c κs = search (few-declared, needs)
+duplicate-name-requires c κs = search needs
 
 returns-2 : tie.Need-returns-2
 returns-2 c = search (refuse-duplicate, needs)

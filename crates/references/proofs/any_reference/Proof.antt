@@ -2,7 +2,7 @@
 -- Assumes nothing.
 use Prim.Native.Nat.{_+_, _*_, _-_, _≤_}
 use mathlib.Core.Path.{_≡_}
-use Rattle.definitions.specs.Tables.{fieldsFrom}
+use Rattle.tables.specs.Tables.{fieldsFrom}
 use Rattle.definitions.specs.Sizes.{anyReference}
 use Rattle.references.specs.Wanted.{wantedBy}
 use Rattle.references.proofs.Turns.{any-start, any-end, any-found, any-turn}
@@ -11,10 +11,12 @@ use Rattle.references.proofs.any_reference.Statement.{statement}
 use Rattle.references.proofs.any_reference.Tie as tie
 
 abbrev Inv-loop : tie.InvT-loop
-Inv-loop rec fields i n wanted k₀ k = (k ≤ n) × (anyReference (wantedBy rec wanted) (fieldsFrom rec fields (i * 64 + k) (n - k)) ≡ anyReference (wantedBy rec wanted) (fieldsFrom rec fields (i * 64) n))
+Inv-loop rec values fields i n wanted k₀ k =
+    (k ≤ n) × (anyReference (wantedBy rec wanted) (fieldsFrom values fields (i * 64 + k) (n - k))
+    ≡ anyReference (wantedBy rec wanted) (fieldsFrom values fields (i * 64) n))
 
 abbrev μ-loop : tie.MeasureT-loop
-μ-loop rec fields i n wanted k₀ k = n - k
+μ-loop rec values fields i n wanted k₀ k = n - k
 
 loop-holds : tie.Need-loop-holds Inv-loop μ-loop
 loop-holds c = (search needs, search (any-start, needs))

@@ -2,7 +2,7 @@
 -- Assumes nothing.
 use Prim.Native.Nat.{_+_, _*_, _-_, _≤_}
 use mathlib.Core.Path.{_≡_}
-use Rattle.definitions.specs.Tables.{fieldsFrom}
+use Rattle.tables.specs.Tables.{fieldsFrom}
 use Rattle.definitions.specs.Sizes.{firstCount}
 use Rattle.references.proofs.Turns.{count-start, count-end, count-found, count-turn}
 use borrow.Author.Needs.{needs}
@@ -10,10 +10,11 @@ use Rattle.references.proofs.first_count.Statement.{statement}
 use Rattle.references.proofs.first_count.Tie as tie
 
 abbrev Inv-loop : tie.InvT-loop
-Inv-loop rec fields i n id k₀ k = (k ≤ n) × (firstCount rec id (fieldsFrom rec fields (i * 64 + k) (n - k)) ≡ firstCount rec id (fieldsFrom rec fields (i * 64) n))
+Inv-loop rec values fields i n id k₀ k =
+    (k ≤ n) × (firstCount rec id (fieldsFrom values fields (i * 64 + k) (n - k)) ≡ firstCount rec id (fieldsFrom values fields (i * 64) n))
 
 abbrev μ-loop : tie.MeasureT-loop
-μ-loop rec fields i n id k₀ k = n - k
+μ-loop rec values fields i n id k₀ k = n - k
 
 loop-holds : tie.Need-loop-holds Inv-loop μ-loop
 loop-holds c = (search needs, search (count-start, needs))

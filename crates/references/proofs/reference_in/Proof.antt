@@ -1,6 +1,6 @@
--- `references::reference_in` meets its contract, by the laws of KindLines.
+-- `references::reference_in` meets its contract, by the laws of KindNumbers.
 -- Assumes nothing.
-use Rattle.references.proofs.KindLines.{refers-no, refers-read}
+use Rattle.references.proofs.KindNumbers.{refers-low, refers-high, refers-read}
 use borrow.Author.Needs.{needs}
 use Rattle.references.proofs.reference_in.Statement.{statement}
 use Rattle.references.proofs.reference_in.Tie as tie
@@ -8,11 +8,14 @@ use Rattle.references.proofs.reference_in.Tie as tie
 place-in-requires : tie.Need-place-in-requires
 place-in-requires c κs = search needs
 
-may-refer-requires : tie.Need-may-refer-requires
-may-refer-requires c κs = search needs
+kind-here-requires : tie.Need-kind-here-requires
+kind-here-requires c κs = search needs
 
 returns : tie.Need-returns
-returns c = search (refers-no, needs)
+returns c = search (refers-low, needs)
+
+returns-2 : tie.Need-returns-2
+returns-2 c = search (refers-high, needs)
 
 field-here-requires : tie.Need-field-here-requires
 field-here-requires c κs = search needs
@@ -20,16 +23,17 @@ field-here-requires c κs = search needs
 reference-requires : tie.Need-reference-requires
 reference-requires c κs = search needs
 
-returns-2 : tie.Need-returns-2
-returns-2 c = search (refers-read, needs)
+returns-3 : tie.Need-returns-3
+returns-3 c = search (refers-read, needs)
 
 pub reference-in-spec : {M : Type 1} → statement M
 reference-in-spec =
     tie.close
     (tie.spec
     place-in-requires
-    may-refer-requires
+    kind-here-requires
     returns
+    returns-2
     field-here-requires
     reference-requires
-    returns-2)
+    returns-3)

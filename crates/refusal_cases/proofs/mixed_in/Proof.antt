@@ -1,4 +1,4 @@
--- `refusal_cases::mixed_in` ends: 32 entries are looked at.
+-- `refusal_cases::mixed_in` ends: 32 rows are looked at.
 -- Assumes nothing.
 use Prim.Native.Nat.{_-_, _≤_}
 use borrow.Author.Needs.{needs}
@@ -6,19 +6,22 @@ use Rattle.refusal_cases.proofs.mixed_in.Statement.{statement}
 use Rattle.refusal_cases.proofs.mixed_in.Tie as tie
 
 abbrev Inv-loop : tie.InvT-loop
-Inv-loop digest table n d₀ i₀ d i = i ≤ 32
+Inv-loop digest rows k n d₀ i₀ d i = i ≤ 32
 
 abbrev μ-loop : tie.MeasureT-loop
-μ-loop digest table n d₀ i₀ d i = 32 - i
+μ-loop digest rows k n d₀ i₀ d i = 32 - i
 
 loop-holds : tie.Need-loop-holds Inv-loop μ-loop
 loop-holds c = search needs
 
-mul-mixed : tie.Need-mul-mixed Inv-loop μ-loop
-mul-mixed c = search needs
+mul-number : tie.Need-mul-number Inv-loop μ-loop
+mul-number c = search needs
 
-element-copy-out-mixed : tie.Need-element-copy-out-mixed Inv-loop μ-loop
-element-copy-out-mixed c = search needs
+add-number : tie.Need-add-number Inv-loop μ-loop
+add-number c = search needs
+
+number-requires : tie.Need-number-requires Inv-loop μ-loop
+number-requires c κs = search needs
 
 mixed-requires : tie.Need-mixed-requires Inv-loop μ-loop
 mixed-requires c κs = search needs
@@ -42,8 +45,9 @@ mixed-in-spec =
     Inv-loop
     μ-loop
     loop-holds
-    mul-mixed
-    element-copy-out-mixed
+    mul-number
+    add-number
+    number-requires
     mixed-requires
     add-i
     loop-less

@@ -17,9 +17,6 @@ enum-told c = search needs
 returns : tie.Need-returns
 returns c = search (enum-none, enum-found, needs)
 
-get-requires : tie.Need-get-requires
-get-requires c κs = search needs
-
 decl-here-requires : tie.Need-decl-here-requires
 decl-here-requires c κs = search needs
 
@@ -37,7 +34,6 @@ enum-of-spec =
     enum-known-i
     enum-told
     returns
-    get-requires
     decl-here-requires
     desc-enum-requires
     returns-2)

@@ -27,11 +27,11 @@ enum-told-2 c = search needs
 returns-2 : tie.Need-returns-2
 returns-2 c = search (parent-absent, parent-none, parent-found, needs)
 
-get-size-requires : tie.Need-get-size-requires
-get-size-requires c κs = search needs
+own-size-requires : tie.Need-own-size-requires
+own-size-requires c κs = search needs
 
-get-size-requires-2 : tie.Need-get-size-requires-2
-get-size-requires-2 c κs = search needs
+parent-size-requires : tie.Need-parent-size-requires
+parent-size-requires c κs = search needs
 
 add-size-requires : tie.Need-add-size-requires
 add-size-requires c κs = search (two-fit, needs)
@@ -50,7 +50,7 @@ parent-of-spec =
     enum-known-i
     enum-told-2
     returns-2
-    get-size-requires
-    get-size-requires-2
+    own-size-requires
+    parent-size-requires
     add-size-requires
     returns-3)

@@ -18,14 +18,14 @@ enum-told c = search needs
 returns : tie.Need-returns
 returns c = search (total-none, total-found, needs)
 
-get-size-requires : tie.Need-get-size-requires
-get-size-requires c κs = search needs
+own-size-requires : tie.Need-own-size-requires
+own-size-requires c κs = search needs
 
-get-size-requires-2 : tie.Need-get-size-requires-2
-get-size-requires-2 c κs = search needs
+parent-size-requires : tie.Need-parent-size-requires
+parent-size-requires c κs = search needs
 
-get-size-requires-3 : tie.Need-get-size-requires-3
-get-size-requires-3 c κs = search needs
+payload-size-requires : tie.Need-payload-size-requires
+payload-size-requires c κs = search needs
 
 add-size-requires : tie.Need-add-size-requires
 add-size-requires c κs = search (two-fit, three-fit, needs)
@@ -44,9 +44,9 @@ total-of-spec =
     enum-known-i
     enum-told
     returns
-    get-size-requires
-    get-size-requires-2
-    get-size-requires-3
+    own-size-requires
+    parent-size-requires
+    payload-size-requires
     add-size-requires
     add-size-requires-2
     returns-2)

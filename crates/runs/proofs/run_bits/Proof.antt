@@ -8,13 +8,13 @@ use Rattle.runs.proofs.run_bits.Statement.{statement}
 use Rattle.runs.proofs.run_bits.Tie as tie
 
 abbrev Inv-loop : tie.InvT-loop
-Inv-loop rec places own parents payloads fields i n k sum₀ j₀ sum j = (k ≤ j) × Summed rec places own parents payloads fields i n k j sum
+Inv-loop rec rows values fields i n k sum₀ j₀ sum j = (k ≤ j) × Summed rec rows values fields i n k j sum
 
 abbrev μ-loop : tie.MeasureT-loop
-μ-loop rec places own parents payloads fields i n k sum₀ j₀ sum j = n - j
+μ-loop rec rows values fields i n k sum₀ j₀ sum j = n - j
 
 loop-holds : tie.Need-loop-holds Inv-loop μ-loop
-loop-holds c = (search needs, run-start _ _ _ _ _ _ _ _ _)
+loop-holds c = (search needs, run-start _ _ _ _ _ _ _)
 
 field-in-requires : tie.Need-field-in-requires Inv-loop μ-loop
 field-in-requires c κs = search needs
@@ -31,7 +31,7 @@ static-width-requires c κs = search needs
 add-sum : tie.Need-add-sum Inv-loop μ-loop
 add-sum c = record {
   fits =
-      run-fits _ _ _ _ _ _ _ _ _ _ _
+      run-fits _ _ _ _ _ _ _ _ _
       (c .before .before .before .before .before .before .loop .inv .1)
       (search needs)
       (c .before .before .before .before .field-in .ensures)
@@ -40,7 +40,7 @@ add-sum c = record {
       (c .before .field-size .ensures)
       (c .static-width .ensures)
       (c .before .before .before .before .before .before .loop .inv .0)
-      (c .before .before .before .before .before .before .before .before .before .before .before .before .before .pre);
+      (c .before .before .before .before .before .before .before .before .before .before .before .pre);
 }
 
 add-j : tie.Need-add-j Inv-loop μ-loop
@@ -52,7 +52,7 @@ loop-less c = search needs
 loop-again : tie.Need-loop-again Inv-loop μ-loop
 loop-again c = (
   search needs,
-  run-turn _ _ _ _ _ _ _ _ _ _ _
+  run-turn _ _ _ _ _ _ _ _ _
       (c .before .before .before .before .before .before .loop .inv .1)
       (search needs)
       (c .before .before .before .before .field-in .ensures)

@@ -5,11 +5,8 @@ use borrow.Author.Needs.{needs}
 use Rattle.schema.proofs.row_at.Statement.{statement}
 use Rattle.schema.proofs.row_at.Tie as tie
 
-get-requires : tie.Need-get-requires
-get-requires c κs = search needs
-
-get-requires-2 : tie.Need-get-requires-2
-get-requires-2 c κs = search needs
+count-here-requires : tie.Need-count-here-requires
+count-here-requires c κs = search needs
 
 decl-here-requires : tie.Need-decl-here-requires
 decl-here-requires c κs = search needs
@@ -21,6 +18,4 @@ returns : tie.Need-returns
 returns c = search (entry-at, needs)
 
 pub row-at-spec : {M : Type 1} → statement M
-row-at-spec =
-    tie.close
-    (tie.spec get-requires get-requires-2 decl-here-requires annotate-decl-requires returns)
+row-at-spec = tie.close (tie.spec count-here-requires decl-here-requires annotate-decl-requires returns)

@@ -1,19 +1,16 @@
--- `schema::schema` meets its contract.
+-- `schema::schema` meets its contract, by the laws of Passing.
 -- Assumes nothing.
 use Prim.Native.Nat.{_-_}
-use Rattle.schema.proofs.Passing.{Going}
-use Rattle.schema.proofs.Passing.{going-turn}
-use Rattle.schema.proofs.Passing.{going-end, going-large}
-use Rattle.schema.proofs.Passing.{going-start}
+use Rattle.schema.proofs.Passing.{Going, going-start, going-turn, going-end, going-large}
 use borrow.Author.Needs.{needs}
 use Rattle.schema.proofs.schema.Statement.{statement}
 use Rattle.schema.proofs.schema.Tie as tie
 
 abbrev Inv-loop : tie.InvT-loop
-Inv-loop rec places fields counts n own₀ parents₀ payloads₀ i₀ own parents payloads i = Going rec places fields counts n own₀ parents₀ payloads₀ own parents payloads i
+Inv-loop rec rows₀ values fields n i₀ rows i = Going rec rows₀ values fields n rows i
 
 abbrev μ-loop : tie.MeasureT-loop
-μ-loop rec places fields counts n own₀ parents₀ payloads₀ i₀ own parents payloads i = n - i
+μ-loop rec rows₀ values fields n i₀ rows i = n - i
 
 loop-holds : tie.Need-loop-holds Inv-loop μ-loop
 loop-holds c = search (going-start, needs)
@@ -24,14 +21,9 @@ row-at-requires c κs = search needs
 same-length : tie.Need-same-length Inv-loop μ-loop
 same-length c = search needs
 
-same-length-2 : tie.Need-same-length-2 Inv-loop μ-loop
-same-length-2 c = search needs
-
-same-length-3 : tie.Need-same-length-3 Inv-loop μ-loop
-same-length-3 c = search needs
-
 returns : tie.Need-returns Inv-loop μ-loop
-returns c = going-large _ _ _ _ _ _ _ _ _ _ _ _ (c .before .before .before .before .before .before .loop .inv) (search needs) (c .before .row-at .ensures) (search needs)
+returns c =
+    going-large _ _ _ _ _ _ _ (c .before .before .before .before .loop .inv) (search needs) (c .before .row-at .ensures) (search needs)
 
 put-row-requires : tie.Need-put-row-requires Inv-loop μ-loop
 put-row-requires c κs = search needs
@@ -43,16 +35,16 @@ loop-less : tie.Need-loop-less Inv-loop μ-loop
 loop-less c = search needs
 
 loop-again : tie.Need-loop-again Inv-loop μ-loop
-loop-again c = going-turn _ _ _ _ _ _ _ _ _ _ _ _ (c .before .before .before .before .before .before .before .before .before .before .before .before .before .before .before .before .loop .inv) (search needs) (c .before .before .before .before .before .before .before .before .before .before .before .row-at .ensures) (search needs) (c .before .before .before .before .before .before .put-row .ensures)
+loop-again c =
+    going-turn _ _ _ _ _ _ _
+    (c .before .before .before .before .before .before .before .before .loop .inv)
+    (search needs)
+    (c .before .before .before .before .before .row-at .ensures)
+    (search needs)
+    (c .before .before .put-row .ensures)
 
-same-length-4 : tie.Need-same-length-4 Inv-loop μ-loop
-same-length-4 c = search needs
-
-same-length-5 : tie.Need-same-length-5 Inv-loop μ-loop
-same-length-5 c = search needs
-
-same-length-6 : tie.Need-same-length-6 Inv-loop μ-loop
-same-length-6 c = search needs
+same-length-2 : tie.Need-same-length-2 Inv-loop μ-loop
+same-length-2 c = search needs
 
 returns-2 : tie.Need-returns-2 Inv-loop μ-loop
 returns-2 c = search (going-end, needs)
@@ -66,14 +58,10 @@ schema-spec =
     loop-holds
     row-at-requires
     same-length
-    same-length-2
-    same-length-3
     returns
     put-row-requires
     add-i
     loop-less
     loop-again
-    same-length-4
-    same-length-5
-    same-length-6
+    same-length-2
     returns-2)

@@ -5,9 +5,6 @@ use borrow.Author.Needs.{needs}
 use Rattle.scope.proofs.bad_names.Statement.{statement}
 use Rattle.scope.proofs.bad_names.Tie as tie
 
-get-requires : tie.Need-get-requires
-get-requires c κs = search needs
-
 decl-here-requires : tie.Need-decl-here-requires
 decl-here-requires c κs = search needs
 
@@ -20,8 +17,8 @@ bad-name-requires c κs = search needs
 returns : tie.Need-returns
 returns c = search (names-parent, names-fields, needs)
 
-get-requires-2 : tie.Need-get-requires-2
-get-requires-2 c κs = search needs
+count-here-requires : tie.Need-count-here-requires
+count-here-requires c κs = search needs
 
 mul-bad-types : tie.Need-mul-bad-types
 mul-bad-types c = search needs
@@ -36,12 +33,11 @@ pub bad-names-spec : {M : Type 1} → statement M
 bad-names-spec =
     tie.close
     (tie.spec
-    get-requires
     decl-here-requires
     parent-id-requires
     bad-name-requires
     returns
-    get-requires-2
+    count-here-requires
     mul-bad-types
     bad-types-requires
     returns-2)

@@ -3,18 +3,20 @@
 use Prim.Native.Nat.{_+_, _-_}
 use mathlib.Core.Path.{_≡_}
 use Rattle.definitions.specs.Bytes.{any}
-use Rattle.definitions.specs.Tables.{fieldsFrom}
-use Rattle.scope.specs.Scopes.{bare, badFieldType}
+use Rattle.tables.specs.Tables.{fieldsFrom}
+use Rattle.ranges.specs.Ranges.{bare}
+use Rattle.scope.specs.Scopes.{badFieldType}
 use Rattle.scope.proofs.Unknown.{type-end, type-found, type-turn, type-start}
 use borrow.Author.Needs.{needs}
 use Rattle.scope.proofs.bad_types.Statement.{statement}
 use Rattle.scope.proofs.bad_types.Tie as tie
 
 abbrev Inv-loop : tie.InvT-loop
-Inv-loop rec places n fields base m k₀ k = any (badFieldType rec (bare rec places n)) (fieldsFrom rec fields (base + k) (m - k)) ≡ any (badFieldType rec (bare rec places n)) (fieldsFrom rec fields base m)
+Inv-loop rec rows n values fields base m k₀ k =
+    any (badFieldType rec (bare rows n)) (fieldsFrom values fields (base + k) (m - k)) ≡ any (badFieldType rec (bare rows n)) (fieldsFrom values fields base m)
 
 abbrev μ-loop : tie.MeasureT-loop
-μ-loop rec places n fields base m k₀ k = m - k
+μ-loop rec rows n values fields base m k₀ k = m - k
 
 loop-holds : tie.Need-loop-holds Inv-loop μ-loop
 loop-holds c = search (type-start, needs)

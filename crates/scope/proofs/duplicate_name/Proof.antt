@@ -1,39 +1,61 @@
--- `scope::duplicate_name` meets its contract: the tables have the names of the declarations.
+-- `scope::duplicate_name` meets its contract, by the laws of Duplicates.
 -- Assumes nothing.
-use Rattle.scope.proofs.Duplicates.{duplicate-is}
+use Prim.Native.Nat.{_-_}
+use mathlib.Core.List.{[]}
+use mathlib.Core.Path.{_≡_}
+use Rattle.definitions.specs.Refusals.{duplicateName}
+use Rattle.tables.specs.Tables.{declarationsFrom}
+use Rattle.ranges.specs.Ranges.{bare}
+use Rattle.scope.proofs.Duplicates.{twice-end, twice-found, twice-turn, twice-start}
 use borrow.Author.Needs.{needs}
 use Rattle.scope.proofs.duplicate_name.Statement.{statement}
 use Rattle.scope.proofs.duplicate_name.Tie as tie
 
-slice-aggregate-gather : tie.Need-slice-aggregate-gather
-slice-aggregate-gather c = search needs
+abbrev Inv-loop : tie.InvT-loop
+Inv-loop rec rows n i₀ i = duplicateName rec (declarationsFrom rows [] [] i (n - i)) ≡ duplicateName rec (bare rows n)
 
-slice-aggregate-gather-2 : tie.Need-slice-aggregate-gather-2
-slice-aggregate-gather-2 c = search needs
+abbrev μ-loop : tie.MeasureT-loop
+μ-loop rec rows n i₀ i = n - i
 
-gather-requires : tie.Need-gather-requires
-gather-requires c κs = search needs
+loop-holds : tie.Need-loop-holds Inv-loop μ-loop
+loop-holds c = search (twice-start, needs)
 
-slice-aggregate-is-twice : tie.Need-slice-aggregate-is-twice
-slice-aggregate-is-twice c = search needs
+decl-here-requires : tie.Need-decl-here-requires Inv-loop μ-loop
+decl-here-requires c κs = search needs
 
-slice-aggregate-is-twice-2 : tie.Need-slice-aggregate-is-twice-2
-slice-aggregate-is-twice-2 c = search needs
+add-is-named : tie.Need-add-is-named Inv-loop μ-loop
+add-is-named c = search needs
 
-is-twice-requires : tie.Need-is-twice-requires
-is-twice-requires c κs = search needs
+is-named-requires : tie.Need-is-named-requires Inv-loop μ-loop
+is-named-requires c κs = search needs
 
-returns : tie.Need-returns
-returns c = search (duplicate-is, needs)
+returns : tie.Need-returns Inv-loop μ-loop
+returns c = search (twice-found, needs)
+
+add-i : tie.Need-add-i Inv-loop μ-loop
+add-i c = search needs
+
+loop-less : tie.Need-loop-less Inv-loop μ-loop
+loop-less c = search needs
+
+loop-again : tie.Need-loop-again Inv-loop μ-loop
+loop-again c = search (twice-turn, needs)
+
+returns-2 : tie.Need-returns-2 Inv-loop μ-loop
+returns-2 c = search (twice-end, needs)
 
 pub duplicate-name-spec : {M : Type 1} → statement M
 duplicate-name-spec =
     tie.close
     (tie.spec
-    slice-aggregate-gather
-    slice-aggregate-gather-2
-    gather-requires
-    slice-aggregate-is-twice
-    slice-aggregate-is-twice-2
-    is-twice-requires
-    returns)
+    Inv-loop
+    μ-loop
+    loop-holds
+    decl-here-requires
+    add-is-named
+    is-named-requires
+    returns
+    add-i
+    loop-less
+    loop-again
+    returns-2)

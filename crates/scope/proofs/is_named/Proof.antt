@@ -1,29 +1,28 @@
 -- `scope::is_named` meets its contract, by the laws of Duplicates.
 -- Assumes nothing.
 use Prim.Native.Nat.{_-_}
+use mathlib.Core.List.{[]}
 use mathlib.Core.Path.{_≡_}
 use Rattle.definitions.specs.Bytes.{any}
-use Rattle.definitions.specs.Sizes.{sameName}
-use Rattle.scope.specs.Scopes.{namesFrom}
+use Rattle.tables.specs.Tables.{declarationsFrom}
+use Rattle.scope.specs.Scopes.{hasName}
 use Rattle.scope.proofs.Duplicates.{named-end, named-found, named-turn}
 use borrow.Author.Needs.{needs}
 use Rattle.scope.proofs.is_named.Statement.{statement}
 use Rattle.scope.proofs.is_named.Tie as tie
 
 abbrev Inv-loop : tie.InvT-loop
-Inv-loop rec starts ends first n name i₀ i = any (sameName rec name) (namesFrom starts ends i (n - i)) ≡ any (sameName rec name) (namesFrom starts ends first (n - first))
+Inv-loop rec rows first n name i₀ i =
+    any (hasName rec name) (declarationsFrom rows [] [] i (n - i)) ≡ any (hasName rec name) (declarationsFrom rows [] [] first (n - first))
 
 abbrev μ-loop : tie.MeasureT-loop
-μ-loop rec starts ends first n name i₀ i = n - i
+μ-loop rec rows first n name i₀ i = n - i
 
 loop-holds : tie.Need-loop-holds Inv-loop μ-loop
 loop-holds c = search needs
 
-get-requires : tie.Need-get-requires Inv-loop μ-loop
-get-requires c κs = search needs
-
-get-requires-2 : tie.Need-get-requires-2 Inv-loop μ-loop
-get-requires-2 c κs = search needs
+decl-here-requires : tie.Need-decl-here-requires Inv-loop μ-loop
+decl-here-requires c κs = search needs
 
 same-name-requires : tie.Need-same-name-requires Inv-loop μ-loop
 same-name-requires c κs = search needs
@@ -50,8 +49,7 @@ is-named-spec =
     Inv-loop
     μ-loop
     loop-holds
-    get-requires
-    get-requires-2
+    decl-here-requires
     same-name-requires
     returns
     add-i

@@ -14,9 +14,6 @@ enum-told c = search needs
 enum-known-i : tie.Need-enum-known-i
 enum-known-i c = search needs
 
-get-requires : tie.Need-get-requires
-get-requires c κs = search needs
-
 decl-here-requires : tie.Need-decl-here-requires
 decl-here-requires c κs = search needs
 
@@ -36,7 +33,6 @@ lacks-spec =
     find-requires
     enum-told
     enum-known-i
-    get-requires
     decl-here-requires
     plays-requires
     returns

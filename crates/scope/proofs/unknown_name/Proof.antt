@@ -3,7 +3,7 @@
 use Prim.Native.Nat.{_-_}
 use mathlib.Core.Path.{_≡_}
 use Rattle.definitions.specs.Refusals.{unknownFrom, unknownName}
-use Rattle.definitions.specs.Tables.{declarationsFrom}
+use Rattle.tables.specs.Tables.{declarationsFrom}
 use Rattle.ranges.proofs.Tests.{few-index, few-fields}
 use Rattle.scope.proofs.Unknown.{unknown-end, unknown-found, unknown-turn, unknown-start}
 use borrow.Author.Needs.{needs}
@@ -11,10 +11,12 @@ use Rattle.scope.proofs.unknown_name.Statement.{statement}
 use Rattle.scope.proofs.unknown_name.Tie as tie
 
 abbrev Inv-loop : tie.InvT-loop
-Inv-loop rec places fields counts n i₀ i = unknownFrom rec (declarationsFrom rec places fields counts 0 i) (declarationsFrom rec places fields counts i (n - i)) ≡ unknownName rec (declarationsFrom rec places fields counts 0 n)
+Inv-loop rec rows values fields n i₀ i =
+    unknownFrom rec (declarationsFrom rows values fields 0 i) (declarationsFrom rows values fields i (n - i))
+    ≡ unknownName rec (declarationsFrom rows values fields 0 n)
 
 abbrev μ-loop : tie.MeasureT-loop
-μ-loop rec places fields counts n i₀ i = n - i
+μ-loop rec rows values fields n i₀ i = n - i
 
 loop-holds : tie.Need-loop-holds Inv-loop μ-loop
 loop-holds c = search (unknown-start, needs)

@@ -11,26 +11,14 @@ schema-requires c κs = search needs
 same-length : tie.Need-same-length
 same-length c = search needs
 
-same-length-2 : tie.Need-same-length-2
-same-length-2 c = search needs
-
-same-length-3 : tie.Need-same-length-3
-same-length-3 c = search needs
-
 returns : tie.Need-returns
 returns c = search (checked-large, checked-fine, needs)
 
 behind-schema-requires : tie.Need-behind-schema-requires
 behind-schema-requires c κs = search needs
 
-same-length-4 : tie.Need-same-length-4
-same-length-4 c = search needs
-
-same-length-5 : tie.Need-same-length-5
-same-length-5 c = search needs
-
-same-length-6 : tie.Need-same-length-6
-same-length-6 c = search needs
+same-length-2 : tie.Need-same-length-2
+same-length-2 c = search needs
 
 returns-2 : tie.Need-returns-2
 returns-2 c = search (checked-large, checked-fine, needs)
@@ -41,11 +29,7 @@ check-sizes-spec =
     (tie.spec
     schema-requires
     same-length
-    same-length-2
-    same-length-3
     returns
     behind-schema-requires
-    same-length-4
-    same-length-5
-    same-length-6
+    same-length-2
     returns-2)

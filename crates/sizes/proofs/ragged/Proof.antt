@@ -10,16 +10,17 @@ use Rattle.sizes.proofs.ragged.Statement.{statement}
 use Rattle.sizes.proofs.ragged.Tie as tie
 
 abbrev Inv-loop : tie.InvT-loop
-Inv-loop rec places own parents payloads fields counts n i₀ i = (i ≤ n) × (ragged rec (entriesFrom rec places fields counts own parents payloads i (n - i)) ≡ ragged rec (entriesFrom rec places fields counts own parents payloads 0 n))
+Inv-loop rec rows values fields n i₀ i =
+    (i ≤ n) × (ragged rec (entriesFrom rec rows values fields i (n - i)) ≡ ragged rec (entriesFrom rec rows values fields 0 n))
 
 abbrev μ-loop : tie.MeasureT-loop
-μ-loop rec places own parents payloads fields counts n i₀ i = n - i
+μ-loop rec rows values fields n i₀ i = n - i
 
 loop-holds : tie.Need-loop-holds Inv-loop μ-loop
 loop-holds c = (search needs, search (entries-ragged, needs))
 
-get-requires : tie.Need-get-requires Inv-loop μ-loop
-get-requires c κs = search needs
+count-here-requires : tie.Need-count-here-requires Inv-loop μ-loop
+count-here-requires c κs = search needs
 
 ragged-fields-requires : tie.Need-ragged-fields-requires Inv-loop μ-loop
 ragged-fields-requires c κs = search needs
@@ -46,7 +47,7 @@ ragged-spec =
     Inv-loop
     μ-loop
     loop-holds
-    get-requires
+    count-here-requires
     ragged-fields-requires
     returns
     add-i

@@ -2,7 +2,7 @@
 -- Assumes nothing.
 use Prim.Native.Nat.{_+_, _*_, _-_, _≤_}
 use mathlib.Core.Path.{_≡_}
-use Rattle.definitions.specs.Tables.{fieldsFrom, rowsFrom}
+use Rattle.tables.specs.Tables.{fieldsFrom, rowsFrom}
 use Rattle.sizes.specs.Answers.{raggedFields}
 use Rattle.sizes.proofs.WholeBytes.{fields-ragged, fields-whole, fields-found, fields-turn}
 use borrow.Author.Needs.{needs}
@@ -10,10 +10,13 @@ use Rattle.sizes.proofs.ragged_fields.Statement.{statement}
 use Rattle.sizes.proofs.ragged_fields.Tie as tie
 
 abbrev Inv-loop : tie.InvT-loop
-Inv-loop rec places own parents payloads fields i n k₀ k = (k ≤ n) × (raggedFields rec (rowsFrom rec places own parents payloads 0 i) (fieldsFrom rec fields (i * 64 + k) (n - k)) ≡ raggedFields rec (rowsFrom rec places own parents payloads 0 i) (fieldsFrom rec fields (i * 64) n))
+Inv-loop rec rows values fields i n k₀ k =
+    (k ≤ n)
+    × (raggedFields rec (rowsFrom rows 0 i) (fieldsFrom values fields (i * 64 + k) (n - k))
+    ≡ raggedFields rec (rowsFrom rows 0 i) (fieldsFrom values fields (i * 64) n))
 
 abbrev μ-loop : tie.MeasureT-loop
-μ-loop rec places own parents payloads fields i n k₀ k = n - k
+μ-loop rec rows values fields i n k₀ k = n - k
 
 loop-holds : tie.Need-loop-holds Inv-loop μ-loop
 loop-holds c = (search needs, search (fields-ragged, needs))

@@ -7,16 +7,13 @@ use Rattle.sizes.proofs.target.Statement.{statement}
 use Rattle.sizes.proofs.target.Tie as tie
 
 abbrev Inv-loop : tie.InvT-loop
-Inv-loop rec name places n i₀ i = Looking rec places name n i
+Inv-loop rec rows n name i₀ i = Looking rec rows name n i
 
 abbrev μ-loop : tie.MeasureT-loop
-μ-loop rec name places n i₀ i = n - i
+μ-loop rec rows n name i₀ i = n - i
 
 loop-holds : tie.Need-loop-holds Inv-loop μ-loop
 loop-holds c = search (looking-start, needs)
-
-get-requires : tie.Need-get-requires Inv-loop μ-loop
-get-requires c κs = search needs
 
 decl-here-requires : tie.Need-decl-here-requires Inv-loop μ-loop
 decl-here-requires c κs = search needs
@@ -46,7 +43,6 @@ target-spec =
     Inv-loop
     μ-loop
     loop-holds
-    get-requires
     decl-here-requires
     is-target-requires
     returns

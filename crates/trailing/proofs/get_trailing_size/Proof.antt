@@ -4,6 +4,7 @@ use Prim.Native.Nat.{_+_, _-_, _≤_}
 use mathlib.Core.Path.{_≡_}
 use Rattle.definitions.specs.Refusals.{staticSum}
 use Rattle.definitions.specs.FieldParser.{trailingFrom, getTrailingSize}
+use Rattle.tables.specs.Tables.{Tables, tablesOf}
 use Rattle.emits.specs.Target.{restAt}
 use Rattle.trailing.proofs.Trailing.{room-start, room-here, room-next, trailing-end, trailing-none, trailing-turn}
 use borrow.Author.Needs.{needs}
@@ -11,12 +12,13 @@ use Rattle.trailing.proofs.get_trailing_size.Statement.{statement}
 use Rattle.trailing.proofs.get_trailing_size.Tie as tie
 
 abbrev Inv-loop : tie.InvT-loop
-Inv-loop rec places own parents payloads fields i n k trailing-size₀ j₀ trailing-size j =
-    (j ≤ n) × (trailingFrom trailing-size (restAt rec places own parents payloads fields i n j) ≡ getTrailingSize (restAt rec places own parents payloads fields i n (k + 1)))
-    × (trailing-size + staticSum (restAt rec places own parents payloads fields i n j) ≤ 2147483647)
+Inv-loop rec rows values fields i n k trailing-size₀ j₀ trailing-size j =
+    let t : Tables = tablesOf rec rows values fields in
+    (j ≤ n) × (trailingFrom trailing-size (restAt t i n j) ≡ getTrailingSize (restAt t i n (k + 1)))
+    × (trailing-size + staticSum (restAt t i n j) ≤ 2147483647)
 
 abbrev μ-loop : tie.MeasureT-loop
-μ-loop rec places own parents payloads fields i n k trailing-size₀ j₀ trailing-size j = n - j
+μ-loop rec rows values fields i n k trailing-size₀ j₀ trailing-size j = n - j
 
 add-j : tie.Need-add-j Inv-loop μ-loop
 add-j c = search needs

@@ -1,0 +1,24 @@
+-- `tables::put` meets its contract, by the laws of Search.
+-- Assumes nothing.
+use Rattle.tables.proofs.Search.{put-out}
+use borrow.Author.Needs.{needs}
+use Rattle.tables.proofs.put.Statement.{statement}
+use Rattle.tables.proofs.put.Tie as tie
+
+mul-t : tie.Need-mul-t
+mul-t c = search needs
+
+slice-write-t : tie.Need-slice-write-t
+slice-write-t c = search needs
+
+same-length : tie.Need-same-length
+same-length c = search needs
+
+returns : tie.Need-returns
+returns c = search needs
+
+returns-2 : tie.Need-returns-2
+returns-2 c = search (put-out, needs)
+
+pub put-spec : {M : Type 1} → statement M
+put-spec = tie.close (tie.spec mul-t slice-write-t same-length returns returns-2)
