@@ -103,13 +103,3 @@ module _ (s : Text) (rows : List Row) {d : FieldDesc} where
   pub bitfield-typedef : {id type : Part} → d ≡ FieldDesc.Typedef id type → {t : EnumType} → t ≡ enumType (enumOf s rows type)
       → {b : Bool} → b ≡ isEnumType t → b ≡ isBitfield s rows d
   bitfield-typedef {id} {type} e et eb = eb ∙ ap isEnumType et ∙ is-enum-type (enumOf s rows type) ∙ ap (isBitfield s rows) (sym e)
-
--- ---- for callers that match on the answer
-
-pub enum-is : (x : EnumOf) {width : ℕ} {isOpen isComplete : Bool} → EnumType.Enum width isOpen isComplete ≡ enumType x → x ≡ enumIs width isOpen isComplete
-enum-is (enumIs width isOpen isComplete) e = cc
-enum-is noEnum e = absurd (let v : _≡_ {A = ℕ} 0 1 = cc in omega arith)
-
-pub enum-is-not : (x : EnumOf) → EnumType.None ≡ enumType x → x ≡ noEnum
-enum-is-not (enumIs width isOpen isComplete) e = absurd (let v : _≡_ {A = ℕ} 0 1 = cc in omega arith)
-enum-is-not noEnum e = refl

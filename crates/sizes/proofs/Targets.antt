@@ -13,7 +13,6 @@ use Rattle.definitions.specs.Refusals.{isFrame, isTarget}
 use Rattle.definitions.specs.FieldParser.{Outcome, refused}
 use Rattle.definitions.specs.Answer.{lowerTarget, lowerIn}
 use Rattle.definitions.specs.declared.Decl.{Decl}
-use Rattle.definitions.specs.declared.DeclDesc.{DeclDesc}
 use Rattle.definitions.specs.declared.Found.{Found}
 use Rattle.definitions.specs.declared.Head.{Head}
 use Rattle.definitions.specs.declared.Part.{Part}
@@ -22,9 +21,6 @@ use Rattle.tables.specs.Tables.{declHere}
 use Rattle.schema.specs.Entries.{entryIn, entriesFrom}
 use Rattle.sizes.specs.Answers.{targetFrom}
 use Rattle.sizes.proofs.WholeBytes.{entries-end, entries-more}
-
-pub frame-as : {d c : DeclDesc} {b : Bool} → d ≡ c → b ≡ isFrame c → b ≡ isFrame d
-frame-as e h = h ∙ ap isFrame (sym e)
 
 pub target-as : (s : Text) (name : Part) (d : Decl) {a : Bool} → a ≡ sameName s (d .id) name → {b : Bool} → b ≡ isFrame (d .desc) → {r : Bool} → r ≡ (a && b)
     → r ≡ (sameName s (d .id) name && isFrame (d .desc))
