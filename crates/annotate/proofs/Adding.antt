@@ -6,15 +6,15 @@ use mathlib.Core.List.{List}
 use mathlib.Core.Path.{_≡_, sym, ap, _∙_}
 use lib.ListN.{getD}
 use Rattle.definitions.specs.Bytes.{Text, pick}
-use Rattle.definitions.specs.Sizes.{Row, isPayload, addSize, outerSize, annotateField, annotateFields, paddedBy}
-use Rattle.definitions.specs.Refusals.{largeSize, tooLarge, badMaybe, staticBits}
+use Rattle.definitions.specs.Sizes.{Row, isPayload, addSize, outerSize, annotateField, annotateFields, paddedBy, staticWidth}
+use Rattle.definitions.specs.Refusals.{largeSize, tooLarge, badMaybe}
 use Rattle.definitions.specs.declared.Field.{Field}
 use Rattle.definitions.specs.declared.MaybeNumber.{MaybeNumber}
 use Rattle.definitions.specs.declared.Size.{Size}
 use Rattle.tables.specs.Tables.{fieldHere, fieldsFrom}
 use Rattle.bits.specs.Capped.{cap, capped, cappedNumber}
 use Rattle.bits.proofs.Caps.{cap-sums, cap-again, capped-sum, capped-again, capped-bits, capped-large, capped-outer, capped-padded}
-use Rattle.references.proofs.Turns.{fields-start, fields-end, fields-more}
+use Rattle.tables.proofs.Walks.{fields-start, fields-end, fields-more}
 use Rattle.annotate.specs.Sums.{addField, nextField, sumFields, noFields}
 use Rattle.annotate.specs.declared.FieldSums.{FieldSums}
 
@@ -35,7 +35,7 @@ sum-outer sum size p e h = h ∙ ap (λ (o : Size). capped (addSize sum o)) e
 module _ (t : FieldSums) (b : Bool) (z : Size) (p : MaybeNumber) where
   pub field-added : {large : Bool} → large ≡ (t .large || (largeSize z || badMaybe tooLarge p))
       → {sum : Size} → sum ≡ pick b (t .sum) (capped (addSize (t .sum) (outerSize z p)))
-      → {payload : Size} → payload ≡ pick b (capped z) (t .payload) → {bits : ℕ} → bits ≡ cap (t .bits + staticBits z)
+      → {payload : Size} → payload ≡ pick b (capped z) (t .payload) → {bits : ℕ} → bits ≡ cap (t .bits + staticWidth z)
       → _≡_ {A = FieldSums} (record { large = large; sum = sum; payload = payload; bits = bits }) (addField t b z p)
   field-added el es ep eb = rw (el, es, ep, eb)
 
@@ -47,7 +47,7 @@ module _ (t : FieldSums) (b : Bool) (z : Size) (p : MaybeNumber) where
       ∙ ap (λ (l : Bool). t .large || (largeSize z || l)) (capped-padded p))
       (ap (λ (o : Size). pick b (t .sum) (capped (addSize (t .sum) o))) (capped-outer z p) ∙ ap (pick b (t .sum)) (capped-sum (t .sum) (outerSize z p)))
       (ap (λ (z : Size). pick b z (t .payload)) (capped-again z))
-      (ap (λ (n : ℕ). cap (t .bits + n)) (capped-bits z) ∙ sum-capped (t .bits) (staticBits z))
+      (ap (λ (n : ℕ). cap (t .bits + n)) (capped-bits z) ∙ sum-capped (t .bits) (staticWidth z))
     where
       sum-capped : (a n : ℕ) → cap (a + cap n) ≡ cap (a + n)
       sum-capped a n = sym (cap-sums a (cap n)) ∙ ap (λ (m : ℕ). cap (cap a + m)) (cap-again n) ∙ cap-sums a n

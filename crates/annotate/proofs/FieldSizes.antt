@@ -1,6 +1,6 @@
 -- The size of a field, kind by kind, and its padding.
 -- Assumes nothing.
-use Prim.Native.Nat.{ℕ, _+_, _*_, _-_, _≤_, _<_}
+use Prim.Native.Nat.{ℕ, _+_, _*_, _-_, _/_, _≤_, _<_}
 use mathlib.Core.Bool.{Bool, true, false}
 use mathlib.Core.List.{List}
 use mathlib.Core.Path.{_≡_, refl, sym, ap, _∙_}
@@ -17,9 +17,10 @@ use Rattle.definitions.specs.declared.MaybePart.{MaybePart}
 use Rattle.definitions.specs.declared.Part.{Part}
 use Rattle.definitions.specs.declared.Size.{Size}
 use Rattle.tables.specs.Tables.{fieldHere, fieldsFrom}
+use Rattle.tables.proofs.FieldKinds.{kindOf, kind-read}
 use Rattle.bits.specs.Capped.{cap, capped, cappedNumber}
 use Rattle.bits.proofs.Caps.{cap-under, capped-fine}
-use Rattle.references.proofs.Turns.{fields-end, fields-more}
+use Rattle.tables.proofs.Walks.{fields-end, fields-more}
 
 pub given-capped : {a : Bool} (b : Bool) {r : Size} → a ≡ b → r ≡ given a → r ≡ capped (given b)
 given-capped {a} b e h = h ∙ ap given e ∙ by b
@@ -79,6 +80,22 @@ padding-as e h = h ∙ ap (λ (d : FieldDesc). cappedNumber (paddingBits d)) (sy
 pub padding-some : {d : FieldDesc} {size x : ℕ} → d ≡ FieldDesc.Padding size → x ≡ cap (8 * size) → MaybeNumber.Some x ≡ cappedNumber (paddingBits d)
 padding-some e h = ap (λ (n : ℕ). MaybeNumber.Some n) h ∙ ap (λ (d : FieldDesc). cappedNumber (paddingBits d)) (sym e)
 
+no-padding : (d : FieldDesc) → (kindOf d ≡ 2 → ⊥) → MaybeNumber.None ≡ cappedNumber (paddingBits d)
+no-padding (FieldDesc.Checksum of) h = refl
+no-padding (FieldDesc.Padding size) h = absurd (h refl)
+no-padding (FieldDesc.Size of width) h = refl
+no-padding (FieldDesc.Count of width) h = refl
+no-padding (FieldDesc.ElementSize of width) h = refl
+no-padding FieldDesc.Body h = refl
+no-padding (FieldDesc.Payload modifier) h = refl
+no-padding (FieldDesc.FixedScalar width value) h = refl
+no-padding (FieldDesc.FixedEnum type tag) h = refl
+no-padding (FieldDesc.Reserved width) h = refl
+no-padding (FieldDesc.Array id width type modifier size) h = refl
+no-padding (FieldDesc.Scalar id width) h = refl
+no-padding (FieldDesc.Flag id) h = refl
+no-padding (FieldDesc.Typedef id type) h = refl
+
 module _ (values fields : List ℕ) (j n k : ℕ) where
   pub padded-none : n ≤ k + 1 → MaybeNumber.None ≡ cappedNumber (paddedBy (fieldsFrom values fields (j + (k + 1)) (n - (k + 1))))
   padded-none h = ap (λ (fs : List Field). cappedNumber (paddedBy fs)) (sym (fields-end values fields j n (k + 1) h))
@@ -86,8 +103,16 @@ module _ (values fields : List ℕ) (j n k : ℕ) where
   pub padded-past : n ≤ k → MaybeNumber.None ≡ cappedNumber (paddedBy (fieldsFrom values fields (j + (k + 1)) (n - (k + 1))))
   padded-past h = padded-none (omega arith)
 
-  pub padded-next : k + 1 < n → {f : Field} → f ≡ fieldHere values (getD fields (j + (k + 1)) 0)
-      → {r : MaybeNumber} → r ≡ cappedNumber (paddingBits (f .desc)) → r ≡ cappedNumber (paddedBy (fieldsFrom values fields (j + (k + 1)) (n - (k + 1))))
-  padded-next h ef er =
-      er ∙ ap (λ (f : Field). cappedNumber (paddingBits (f .desc))) ef
-      ∙ ap (λ (fs : List Field). cappedNumber (paddedBy fs)) (sym (fields-more values fields j n (k + 1) h))
+  module _ (h : k + 1 < n) {at : ℕ} (ea : at ≡ getD fields (j + (k + 1)) 0) where
+    behind : cappedNumber (paddingBits (fieldHere values at .desc)) ≡ cappedNumber (paddedBy (fieldsFrom values fields (j + (k + 1)) (n - (k + 1))))
+    behind =
+        ap (λ (p : ℕ). cappedNumber (paddingBits (fieldHere values p .desc))) ea
+        ∙ ap (λ (fs : List Field). cappedNumber (paddedBy fs)) (sym (fields-more values fields j n (k + 1) h))
+
+    pub padded-other : {kind : ℕ} → kind ≡ getD values (at / 16 * 17 + 1) 0 → (kind ≡ 2 → ⊥)
+        → MaybeNumber.None ≡ cappedNumber (paddedBy (fieldsFrom values fields (j + (k + 1)) (n - (k + 1))))
+    padded-other ek o = no-padding (fieldHere values at .desc) (λ e. o (omega (arith, kind-read values at))) ∙ behind
+
+    pub padded-next : {f : Field} → f ≡ fieldHere values at → {r : MaybeNumber} → r ≡ cappedNumber (paddingBits (f .desc))
+        → r ≡ cappedNumber (paddedBy (fieldsFrom values fields (j + (k + 1)) (n - (k + 1))))
+    padded-next ef er = er ∙ ap (λ (f : Field). cappedNumber (paddingBits (f .desc))) ef ∙ behind

@@ -7,8 +7,8 @@ use mathlib.Core.Path.{_≡_, refl, sym, ap, _∙_}
 use native.Mathlib.Nat.{add-assoc, add-zero, zero-add}
 use native.Mathlib.Omega.{arith}
 use Rattle.definitions.specs.Bytes.{pick, any}
-use Rattle.definitions.specs.Sizes.{Annotated, isPayload, addSize, outerSize, fieldsSize, payloadsSize}
-use Rattle.definitions.specs.Refusals.{largeField, staticBits, staticSum}
+use Rattle.definitions.specs.Sizes.{Annotated, isPayload, addSize, outerSize, fieldsSize, payloadsSize, staticWidth}
+use Rattle.definitions.specs.Refusals.{largeField, staticSum}
 use Rattle.definitions.specs.declared.Size.{Size}
 use Rattle.bits.specs.Capped.{cap, capped}
 use Rattle.bits.proofs.Booleans.{or-none, or-assoc}
@@ -75,9 +75,9 @@ bits-from : (t : FieldSums) → cap (t .bits) ≡ t .bits → (xs : List Annotat
 unfolding sumFields staticSum
 bits-from t h [] = sym (ap cap (add-zero (t .bits)) ∙ h)
 bits-from t h (a ∷ xs) =
-    bits-from (next t a) (again (t .bits + staticBits (a .fieldSize))) xs
-    ∙ cap-sum (t .bits + staticBits (a .fieldSize)) (staticSum xs)
-    ∙ ap cap (add-assoc (t .bits) (staticBits (a .fieldSize)) (staticSum xs))
+    bits-from (next t a) (again (t .bits + staticWidth (a .fieldSize))) xs
+    ∙ cap-sum (t .bits + staticWidth (a .fieldSize)) (staticSum xs)
+    ∙ ap cap (add-assoc (t .bits) (staticWidth (a .fieldSize)) (staticSum xs))
   where
     again : (n : ℕ) → cap (cap n) ≡ cap n
     again n = ap cap (sym (add-zero (cap n))) ∙ cap-sum n 0 ∙ ap cap (add-zero n)

@@ -6,8 +6,8 @@ use mathlib.Core.List.{List, [], _∷_}
 use Prim.Native.Nat.{ℕ, _+_, _-_}
 use lib.ListN.{getD}
 use Rattle.definitions.specs.Bytes.{Text, pick}
-use Rattle.definitions.specs.Sizes.{Row, Annotated, isPayload, addSize, outerSize, annotateField, paddedBy}
-use Rattle.definitions.specs.Refusals.{largeSize, tooLarge, badMaybe, staticBits}
+use Rattle.definitions.specs.Sizes.{Row, Annotated, isPayload, addSize, outerSize, annotateField, paddedBy, staticWidth}
+use Rattle.definitions.specs.Refusals.{largeSize, tooLarge, badMaybe}
 use Rattle.definitions.specs.declared.MaybeNumber.{MaybeNumber}
 use Rattle.definitions.specs.declared.Size.{Size}
 use Rattle.tables.specs.Tables.{fieldHere, fieldsFrom}
@@ -25,7 +25,7 @@ addField t payload size padded =
       large = t .large || (largeSize size || badMaybe tooLarge padded);
       sum = pick payload (t .sum) (capped (addSize (t .sum) (outerSize size padded)));
       payload = pick payload (capped size) (t .payload);
-      bits = cap (t .bits + staticBits size);
+      bits = cap (t .bits + staticWidth size);
     }
 
 -- field k of the n whose places the table of 2,048 has from j on

@@ -33,7 +33,7 @@ fn array_bits(
     rec: &[u8],
     rows: &[u64],
     values: &[u64],
-    fields: &[usize],
+    fields: &[u16],
     i: usize,
     n: usize,
     array: ArrayParts,
@@ -62,7 +62,7 @@ fn desc_size(
     rec: &[u8],
     rows: &[u64],
     values: &[u64],
-    fields: &[usize],
+    fields: &[u16],
     i: usize,
     n: usize,
     desc: FieldDesc,
@@ -128,7 +128,7 @@ pub fn annotate_field(
     rec: &[u8],
     rows: &[u64],
     values: &[u64],
-    fields: &[usize],
+    fields: &[u16],
     i: usize,
     n: usize,
     f: Field,
@@ -149,7 +149,7 @@ pub fn field_size(
     rec: &[u8],
     rows: &[u64],
     values: &[u64],
-    fields: &[usize],
+    fields: &[u16],
     i: usize,
     n: usize,
     f: Field,
@@ -203,8 +203,8 @@ fn padding_bits(desc: FieldDesc) -> MaybeNumber
     }
 }
 
-// `padded_size` of field k: what the field behind it sets.
-pub fn padded_size(values: &[u64], fields: &[usize], i: usize, n: usize, k: usize) -> MaybeNumber
+// `padded_size` of field k: what the field behind it sets. Only the kind 2, a padding, sets one; of others no more is read.
+pub fn padded_size(values: &[u64], fields: &[u16], i: usize, n: usize, k: usize) -> MaybeNumber
     ensures { λ r. ⌜ r ≡ cappedNumber (paddedBy (fieldsFrom (now (values .entry)) (now (fields .entry)) (i * 64 + (k + 1)) (n - (k + 1)))) ⌝ }
 {
     if n <= k {
@@ -214,7 +214,11 @@ pub fn padded_size(values: &[u64], fields: &[usize], i: usize, n: usize, k: usiz
     if n <= next {
         return MaybeNumber::None;
     }
-    let f = references::field_in(values, fields, i, next);
+    let at = references::place_in(fields, i, next);
+    if tables::kind_here(values, at) != 2 {
+        return MaybeNumber::None;
+    }
+    let f = tables::field_here(values, at);
     let desc = f.desc;
     padding_bits(desc)
 }
@@ -329,7 +333,7 @@ fn next_field(
     rec: &[u8],
     rows: &[u64],
     values: &[u64],
-    fields: &[usize],
+    fields: &[u16],
     i: usize,
     n: usize,
     k: usize,
@@ -349,7 +353,7 @@ pub fn sum_fields(
     rec: &[u8],
     rows: &[u64],
     values: &[u64],
-    fields: &[usize],
+    fields: &[u16],
     i: usize,
     n: usize,
 ) -> FieldSums

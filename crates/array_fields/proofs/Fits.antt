@@ -8,20 +8,20 @@ use native.Mathlib.Nat.{mul-comm, mul-le-mul-right, div-le-self}
 use native.Mathlib.Omega.{arith}
 use borrow.Author.Tests.{ltb-false}
 use Rattle.definitions.specs.Bytes.{Text, pick}
-use Rattle.definitions.specs.Sizes.{Row, totalOf, sameName, reference, anyReference, isElementSize, countedBy, firstCount, mulSize, arrayBits, typedElement, elementSize, arraySize}
+use Rattle.definitions.specs.Sizes.{Row, totalOf, sameName, reference, anyReference, isElementSize, countedBy, firstCount}
+use Rattle.definitions.specs.Sizes.{mulSize, arrayBits, typedElement, elementSize, arraySize}
 use Rattle.definitions.specs.Refusals.{largeSize}
 use Rattle.definitions.specs.declared.ArraySize.{ArraySize}
 use Rattle.definitions.specs.declared.ElementSize.{ElementSize}
-use Rattle.definitions.specs.declared.EndiannessValue.{EndiannessValue}
 use Rattle.definitions.specs.declared.Field.{Field}
 use Rattle.definitions.specs.declared.MaybeNumber.{MaybeNumber}
 use Rattle.definitions.specs.declared.MaybePart.{MaybePart}
-use Rattle.definitions.specs.declared.Modifier.{Modifier}
 use Rattle.definitions.specs.declared.Part.{Part}
 use Rattle.definitions.specs.declared.Reference.{Reference}
 use Rattle.definitions.specs.declared.Size.{Size}
 use Rattle.arrays.specs.Shapes.{product}
 use Rattle.emits.specs.BlockOf.{BlockFits}
+use Rattle.array_fields.specs.declared.ArrayField.{ArrayField}
 use Rattle.array_fields.specs.Arrays.{arrayAt}
 
 -- ---- a count that is not static
@@ -68,17 +68,16 @@ typed-fits Size.Dynamic false count h = omega arith
 typed-fits Size.Unknown true count h = omega arith
 typed-fits Size.Unknown false count h = omega arith
 
-module _ (s : Text) (rows : List Row) (fs : List Field) (id : Part) where
-  product-fits : (width : MaybeNumber) (type : MaybePart) (size : MaybeNumber) → largeSize (arrayBits s rows fs id width type size) ≡ false
+module _ (s : Text) (rows : List Row) (fs : List Field) where
+  product-fits : (id : Part) (width : MaybeNumber) (type : MaybePart) (size : MaybeNumber) → largeSize (arrayBits s rows fs id width type size) ≡ false
       → product (elementSize s rows fs id width type) (arraySize s fs id size) < 2 ^ 64
-  product-fits width type MaybeNumber.None h = omega (arith, first-none s id (elementSize s rows fs id width type) fs)
-  product-fits (MaybeNumber.Some bits) type (MaybeNumber.Some count) h =
+  product-fits id width type MaybeNumber.None h = omega (arith, first-none s id (elementSize s rows fs id width type) fs)
+  product-fits id (MaybeNumber.Some bits) type (MaybeNumber.Some count) h =
       omega (arith, bytes-low bits count, mul-comm bits count, ltb-false 2147483647 (count * bits) h)
-  product-fits MaybeNumber.None (MaybePart.Some type) (MaybeNumber.Some count) h =
-      typed-fits (totalOf s rows type) (anyReference (isElementSize s id) fs) count h
-  product-fits MaybeNumber.None MaybePart.None (MaybeNumber.Some count) h = omega arith
+  product-fits id MaybeNumber.None (MaybePart.Some type) (MaybeNumber.Some n) h = typed-fits (totalOf s rows type) (anyReference (isElementSize s id) fs) n h
+  product-fits id MaybeNumber.None MaybePart.None (MaybeNumber.Some count) h = omega arith
 
-  pub array-fits : (order : EndiannessValue) (padding : MaybeNumber) (width : MaybeNumber) (type : MaybePart) (modifier : Modifier) (size : MaybeNumber)
-      → largeSize (arrayBits s rows fs id width type size) ≡ false → BlockFits (arrayAt s rows fs order padding id width type modifier size)
+  pub array-fits : (padding : MaybeNumber) (a : ArrayField) → largeSize (arrayBits s rows fs (a .id) (a .width) (a .«type_id») (a .size)) ≡ false
+      → BlockFits (arrayAt s rows fs padding a)
   unfolding arrayAt
-  array-fits order padding width type modifier size h = product-fits width type size h
+  array-fits padding a h = product-fits (a .id) (a .width) (a .«type_id») (a .size) h

@@ -8,31 +8,30 @@ use borrow.Author.Tests.{ltb-false}
 use Rattle.definitions.specs.Bytes.{Text, pick}
 use Rattle.definitions.specs.Sizes.{Row, enumOf, elementSize, arraySize}
 use Rattle.definitions.specs.Refusals.{tooLarge, badMaybe}
+use Rattle.definitions.specs.declared.EnumOf.{EnumOf}
 use Rattle.definitions.specs.declared.ArraySize.{ArraySize}
 use Rattle.definitions.specs.declared.ElementSize.{ElementSize}
 use Rattle.definitions.specs.declared.EndiannessValue.{EndiannessValue}
 use Rattle.definitions.specs.declared.MaybeNumber.{MaybeNumber}
 use Rattle.definitions.specs.declared.MaybePart.{MaybePart}
-use Rattle.definitions.specs.declared.Modifier.{Modifier}
 use Rattle.definitions.specs.declared.Part.{Part}
 use Rattle.bits.specs.Capped.{cappedNumber}
 use Rattle.bits.proofs.Caps.{cap-under}
-use Rattle.rows.specs.Enums.{enumType}
-use Rattle.rows.specs.declared.EnumType.{EnumType}
 use Rattle.elements.specs.declared.Element.{Element}
 use Rattle.emits.specs.declared.BlockAt.{BlockAt}
 use Rattle.tables.specs.Tables.{Tables, tablesOf, rowsOf, fieldsOf}
 use Rattle.emits.specs.Target.{annotatedAt, Fine}
 use Rattle.emits.proofs.Fines.{padding-fine}
+use Rattle.array_fields.specs.declared.ArrayField.{ArrayField}
 use Rattle.array_fields.specs.Arrays.{typedElement, elementAt, bytesOf, arrayAt}
 
 -- ---- the element
 
-module _ (order : EndiannessValue) {e : EnumType} where
-  pub no-enum : e ≡ EnumType.None → Element.Parsed ≡ typedElement order e
+module _ (order : EndiannessValue) {e : EnumOf} where
+  pub no-enum : e ≡ EnumOf.None → Element.Parsed ≡ typedElement order e
   no-enum h = ap (typedElement order) (sym h)
 
-  module _ {width : ℕ} {isOpen isComplete : Bool} (h : e ≡ EnumType.Enum width isOpen isComplete) where
+  module _ {width : ℕ} {isOpen isComplete : Bool} (h : e ≡ EnumOf.Enum width isOpen isComplete) where
     pub open-enum : isOpen ≡ true → Element.OpenEnum order width ≡ typedElement order e
     open-enum o = ap (λ (b : Bool). pick b (Element.OpenEnum order width) (Element.ClosedEnum order width)) (sym o) ∙ ap (typedElement order) (sym h)
 
@@ -44,7 +43,7 @@ module _ (s : Text) (rows : List Row) (order : EndiannessValue) {w : MaybeNumber
   element-scalar t e = sym (ap (λ (w : MaybeNumber). elementAt s rows order w t) e)
 
   module _ (ew : w ≡ MaybeNumber.None) {t : MaybePart} where
-    pub element-typed : {type : Part} → t ≡ MaybePart.Some type → {e : EnumType} → e ≡ enumType (enumOf s rows type)
+    pub element-typed : {type : Part} → t ≡ MaybePart.Some type → {e : EnumOf} → e ≡ (enumOf s rows type)
         → {r : Element} → r ≡ typedElement order e → r ≡ elementAt s rows order w t
     element-typed et ee er = er ∙ ap (typedElement order) ee ∙ sym (rw (ew, et))
 
@@ -72,12 +71,11 @@ module _ (s rows values fields : List ℕ) (i n k : ℕ) where
 
   -- ---- the block
 
-  pub array-made : (order : EndiannessValue) (id : Part) (width : MaybeNumber) (type : MaybePart) (modifier : Modifier) (size : MaybeNumber)
-      → {padding : MaybeNumber} → padding ≡ bytesOf (annotatedAt tables i n k .paddedSize)
-      → {element : Element} → element ≡ elementAt s (rowsOf tables i) order width type
-      → {e : ElementSize} → e ≡ elementSize s (rowsOf tables i) (fieldsOf tables i n) id width type
-      → {m : ArraySize} → m ≡ arraySize s (fieldsOf tables i n) id size
-      → BlockAt.Array padding id type element modifier e m
-      ≡ arrayAt s (rowsOf tables i) (fieldsOf tables i n) order (annotatedAt tables i n k .paddedSize) id width type modifier size
+  pub array-made : (a : ArrayField) {padding : MaybeNumber} → padding ≡ bytesOf (annotatedAt tables i n k .paddedSize)
+      → {element : Element} → element ≡ elementAt s (rowsOf tables i) (a .endianness) (a .width) (a .«type_id»)
+      → {e : ElementSize} → e ≡ elementSize s (rowsOf tables i) (fieldsOf tables i n) (a .id) (a .width) (a .«type_id»)
+      → {m : ArraySize} → m ≡ arraySize s (fieldsOf tables i n) (a .id) (a .size)
+      → BlockAt.Array padding (a .id) (a .«type_id») element (a .«size_modifier») e m
+      ≡ arrayAt s (rowsOf tables i) (fieldsOf tables i n) (annotatedAt tables i n k .paddedSize) a
   unfolding arrayAt
-  array-made order id width type modifier size ep ee es em = rw (ep, ee, es, em)
+  array-made a ep ee es em = rw (ep, ee, es, em)

@@ -3,13 +3,13 @@
 
 use annotate::ArrayParts;
 use definitions::EndiannessValue;
+use definitions::EnumOf;
 use definitions::MaybeNumber;
 use definitions::MaybePart;
 use definitions::Modifier;
 use definitions::Part;
 use elements::Element;
 use emits::BlockAt;
-use rows::EnumType;
 ghost use mathlib.Core.Path.{_≡_};
 ghost use Prim.Native.Nat.{_<_};
 ghost use Rattle.tables.specs.Tables.{rowsFrom, Tables, tablesOf, rowsOf, fieldsOf};
@@ -17,11 +17,11 @@ ghost use Rattle.emits.specs.Target.{annotatedAt, Fine};
 ghost use Rattle.array_fields.specs.Arrays.{typedElement, elementAt, bytesOf, arrayAt};
 
 // `complete` spares no test here.
-fn typed_element(endianness: EndiannessValue, e: EnumType) -> Element
+fn typed_element(endianness: EndiannessValue, e: EnumOf) -> Element
     ensures { λ r. ⌜ r ≡ typedElement endianness e ⌝ }
 {
     match e {
-        EnumType::Enum {
+        EnumOf::Enum {
             width,
             open,
             complete: _,
@@ -31,7 +31,7 @@ fn typed_element(endianness: EndiannessValue, e: EnumType) -> Element
             }
             Element::ClosedEnum { endianness, width }
         }
-        EnumType::None => Element::Parsed,
+        EnumOf::None => Element::Parsed,
     }
 }
 
@@ -72,7 +72,7 @@ fn padded_bytes(
     rec: &[u8],
     rows: &[u64],
     values: &[u64],
-    fields: &[usize],
+    fields: &[u16],
     i: usize,
     n: usize,
     k: usize,
@@ -85,42 +85,53 @@ fn padded_bytes(
     bytes_of(annotate::padded_size(values, fields, i, n, k))
 }
 
+// The array as the record has it, and the target's byte order.
+pub struct ArrayField {
+    pub id: Part,
+    pub width: MaybeNumber,
+    pub type_id: MaybePart,
+    pub size_modifier: Modifier,
+    pub size: MaybeNumber,
+    pub endianness: EndiannessValue,
+}
+
 pub fn parse_array_field(
     rec: &[u8],
     rows: &[u64],
     values: &[u64],
-    fields: &[usize],
+    fields: &[u16],
     i: usize,
     n: usize,
     k: usize,
-    endianness: EndiannessValue,
-    id: Part,
-    width: MaybeNumber,
-    type_id: MaybePart,
-    size_modifier: Modifier,
-    size: MaybeNumber,
+    array: ArrayField,
 ) -> BlockAt
     requires { ⌜ k < n ⌝ }
     requires { let t : Tables = tablesOf (now rec) (now rows) (now values) (now fields) in ⌜ Fine t i n ⌝ }
     ensures { λ r. let t : Tables = tablesOf (now (rec .entry)) (now (rows .entry)) (now (values .entry)) (now (fields .entry)) in
-        ⌜ r ≡ arrayAt (t .source) (rowsOf t i) (fieldsOf t i n) endianness (annotatedAt t i n k .paddedSize) id width «type_id» «size_modifier» size ⌝ }
+        ⌜ r ≡ arrayAt (t .source) (rowsOf t i) (fieldsOf t i n) (annotatedAt t i n k .paddedSize) array ⌝ }
 {
-    let padding = padded_bytes(rec, rows, values, fields, i, n, k);
-    let element = element_of(rec, rows, i, endianness, width, type_id);
-    let array = ArrayParts {
+    let id = array.id;
+    let width = array.width;
+    let type_id = array.type_id;
+    let modifier = array.size_modifier;
+    let size = array.size;
+    let endianness = array.endianness;
+    let parts = ArrayParts {
         id,
         width,
         type_id,
         size,
     };
-    let element_size = sizes::element_size(rec, rows, values, fields, i, n, array);
+    let padding = padded_bytes(rec, rows, values, fields, i, n, k);
+    let element = element_of(rec, rows, i, endianness, width, type_id);
+    let element_size = sizes::element_size(rec, rows, values, fields, i, n, parts);
     let array_size = references::array_size(rec, values, fields, i, n, id, size);
     BlockAt::Array {
         padding,
         id,
         type_id,
         element,
-        modifier: size_modifier,
+        modifier,
         element_size,
         array_size,
     }

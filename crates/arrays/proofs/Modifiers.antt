@@ -45,11 +45,12 @@ module _ (m : Arrays) (id : Text) (k : Modifier) where
 -- the modifier before any statements
 modifier-then : (k : Modifier) (x : Text) (xs : List Stmt) → render (modifierLines k 64 x []) ++ render xs ≡ render (modifierLines k 64 x xs)
 modifier-then Modifier.None x xs = refl
-modifier-then (Modifier.Plus n) x xs = sym (line-leads 0 (Line.lower 64 x n) .split [] (render xs))
-modifier-then (Modifier.Minus n) x xs = sym (line-leads 0 (Line.raise 64 x n) .split [] (render xs))
+modifier-then (Modifier.Plus n) x xs = sym (line-leads 0 (Line.minus 64 x n) .split [] (render xs))
+modifier-then (Modifier.Minus n) x xs = sym (line-leads 0 (Line.plus 64 x n) .split [] (render xs))
 
 -- lite reads no element
-lite-any : (id type : Text) (d : Elem) (e : ElementSize) (n : ArraySize) → parseArrayFieldLite id type (Elem.parsed type) [] e n ≡ parseArrayFieldLite id type d [] e n
+lite-any : (id type : Text) (d : Elem) (e : ElementSize) (n : ArraySize)
+    → parseArrayFieldLite id type (Elem.parsed type) [] e n ≡ parseArrayFieldLite id type d [] e n
 lite-any id type d (ElementSize.Static es) (ArraySize.StaticCount n) = refl
 lite-any id type d (ElementSize.Static es) ArraySize.DynamicCount = refl
 lite-any id type d (ElementSize.Static es) ArraySize.DynamicSize = refl
@@ -64,7 +65,8 @@ lite-any id type d ElementSize.Unknown ArraySize.DynamicSize = refl
 lite-any id type d ElementSize.Unknown ArraySize.Unknown = refl
 
 module _ (m : Arrays) (id type : Text) (element : Element) (k : Modifier) (e : ElementSize) (n : ArraySize) {l l₁ l₂ : Text} {i r q : ℕ} where
-  pub array-lite : m ≡ Arrays.Lite → Put l i (modifierText m id k) r l₁ → Put l₁ r (liteText id type e n) q l₂ → Put l i (arrayText m id type element k e n) q l₂
+  pub array-lite : m ≡ Arrays.Lite → Put l i (modifierText m id k) r l₁ → Put l₁ r (liteText id type e n) q l₂
+      → Put l i (arrayText m id type element k e n) q l₂
   unfolding modifierText liteText arrayText stmtsBytes
   array-lite h p t =
       rw h
@@ -73,7 +75,8 @@ module _ (m : Arrays) (id type : Text) (element : Element) (k : Modifier) (e : E
       ∙ ap (λ (xs : List Stmt). render (modifierLines k 64 (named Arrays.Lite id (text "_size_")) xs)) (lite-any id type (elementOf type element) e n))
       (chain (rw h at p) t))
 
-  pub array-full : m ≡ Arrays.Full → Put l i (modifierText m id k) r l₁ → Put l₁ r (fullText id type element e n) q l₂ → Put l i (arrayText m id type element k e n) q l₂
+  pub array-full : m ≡ Arrays.Full → Put l i (modifierText m id k) r l₁ → Put l₁ r (fullText id type element e n) q l₂
+      → Put l i (arrayText m id type element k e n) q l₂
   unfolding modifierText fullText arrayText stmtsBytes
   array-full h p t =
       rw h

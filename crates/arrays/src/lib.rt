@@ -28,6 +28,14 @@ fn put_modifier(out: &mut [u8], at: usize, arrays: Arrays, id: &[u8], modifier: 
     }
 }
 
+// What of an array its lines depend on, beside its names.
+pub struct ArrayShape {
+    pub element: Element,
+    pub modifier: Modifier,
+    pub element_size: ElementSize,
+    pub array_size: ArraySize,
+}
+
 // An array's lines, with its size modifier.
 pub fn put_array(
     out: &mut [u8],
@@ -35,14 +43,17 @@ pub fn put_array(
     arrays: Arrays,
     id: &[u8],
     type_id: &[u8],
-    element: Element,
-    modifier: Modifier,
-    element_size: ElementSize,
-    array_size: ArraySize,
+    shape: ArrayShape,
 ) -> usize
-    requires { ⌜ ProductFits «element_size» «array_size» ⌝ }
-    ensures { λ r. ⌜ Put (now (out .entry)) at (arrayText arrays (now (id .entry)) (now («type_id» .entry)) element modifier «element_size» «array_size») r (now (out .exit)) ⌝ }
+    requires { ⌜ ProductFits (shape .«element_size») (shape .«array_size») ⌝ }
+    ensures { λ r. ⌜ Put (now (out .entry)) at
+        (arrayText arrays (now (id .entry)) (now («type_id» .entry)) (shape .element) (shape .modifier) (shape .«element_size») (shape .«array_size»))
+        r (now (out .exit)) ⌝ }
 {
+    let element = shape.element;
+    let element_size = shape.element_size;
+    let array_size = shape.array_size;
+    let modifier = shape.modifier;
     let p = put_modifier(out, at, arrays, id, modifier);
     match arrays {
         Arrays::Lite => lite_arrays::parse_array_field_lite(

@@ -8,8 +8,8 @@ use native.Mathlib.Omega.{arith}
 use borrow.Author.Tests.{lt-ltb, le-ltb, ltb-true, ltb-false}
 use lib.Dec.{ltb}
 use Rattle.definitions.specs.Bytes.{pick}
-use Rattle.definitions.specs.Sizes.{addSize, mulSize, outerSize}
-use Rattle.definitions.specs.Refusals.{staticBits, largeSize, tooLarge, badMaybe}
+use Rattle.definitions.specs.Sizes.{addSize, mulSize, outerSize, staticWidth}
+use Rattle.definitions.specs.Refusals.{largeSize, tooLarge, badMaybe}
 use Rattle.definitions.specs.declared.MaybeNumber.{MaybeNumber}
 use Rattle.definitions.specs.declared.Size.{Size}
 use Rattle.bits.specs.Capped.{cap, capped, cappedNumber}
@@ -55,7 +55,7 @@ cap-sums a b =
 
 -- ---- a size
 
-pub capped-low : (z : Size) → staticBits (capped z) ≤ 2147483648
+pub capped-low : (z : Size) → staticWidth (capped z) ≤ 2147483648
 capped-low (Size.Static n) = cap-low n
 capped-low Size.Dynamic = omega arith
 capped-low Size.Unknown = omega arith
@@ -70,7 +70,7 @@ capped-again (Size.Static n) = ap (λ (n : ℕ). Size.Static n) (cap-again n)
 capped-again Size.Dynamic = refl
 capped-again Size.Unknown = refl
 
-pub capped-bits : (z : Size) → staticBits (capped z) ≡ cap (staticBits z)
+pub capped-bits : (z : Size) → staticWidth (capped z) ≡ cap (staticWidth z)
 capped-bits (Size.Static n) = refl
 capped-bits Size.Dynamic = cap-under 0 (omega arith)
 capped-bits Size.Unknown = cap-under 0 (omega arith)
@@ -160,11 +160,11 @@ add-unknown Size.Unknown e = rw e
 pub add-as : {a b x y : Size} {r : Size} → a ≡ x → b ≡ y → r ≡ addSize x y → r ≡ addSize a b
 add-as ea eb h = h ∙ sym (rw (ea, eb))
 
-pub add-fits : {a b : Size} {x y : ℕ} → a ≡ Size.Static x → b ≡ Size.Static y → staticBits a + staticBits b < 2 ^ 64 → x + y < 2 ^ 64
+pub add-fits : {a b : Size} {x y : ℕ} → a ≡ Size.Static x → b ≡ Size.Static y → staticWidth a + staticWidth b < 2 ^ 64 → x + y < 2 ^ 64
 add-fits ea eb h = rw (ea, eb) at h
 
 module _ (a b : Size) {x y : Size} (ea : x ≡ capped a) (eb : y ≡ capped b) where
-  pub capped-fit : staticBits x + staticBits y < 2 ^ 64
+  pub capped-fit : staticWidth x + staticWidth y < 2 ^ 64
   capped-fit = rw (ea, eb) (omega (arith, capped-low a, capped-low b))
 
   pub capped-added : {z r : Size} → z ≡ addSize x y → r ≡ capped z → r ≡ capped (addSize a b)
@@ -175,6 +175,6 @@ module _ (a b : ℕ) {x y : ℕ} (ea : x ≡ cap a) (eb : y ≡ cap b) where
   pub cap-fit : x + y < 2 ^ 64
   cap-fit = rw (ea, eb) (omega (arith, cap-low a, cap-low b))
 
-  pub cap-added : (z : Size) → b ≡ staticBits z → {r : ℕ} → r ≡ cap (x + y) → r ≡ cap (a + staticBits z)
+  pub cap-added : (z : Size) → b ≡ staticWidth z → {r : ℕ} → r ≡ cap (x + y) → r ≡ cap (a + staticWidth z)
   cap-added z ez er =
       er ∙ ap (λ (x : ℕ). cap (x + y)) ea ∙ ap (λ (y : ℕ). cap (cap a + y)) eb ∙ cap-sums a b ∙ ap (λ (b : ℕ). cap (a + b)) ez

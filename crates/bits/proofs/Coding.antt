@@ -9,8 +9,8 @@ use borrow.Author.Tests.{lt-ltb, le-ltb, eq-eqb, ne-eqb, ltb-true, ltb-false}
 use lib.Dec.{ltb, eqb}
 use lib.ListN.{length, getD, set, List·getD-eq-default}
 use lib.Seq.{set-out}
-use Rattle.definitions.specs.Sizes.{addSize}
-use Rattle.definitions.specs.Refusals.{staticBits, largeSize}
+use Rattle.definitions.specs.Sizes.{addSize, staticWidth}
+use Rattle.definitions.specs.Refusals.{largeSize}
 use Rattle.definitions.specs.Tables.{encode, decode}
 use Rattle.definitions.specs.declared.Size.{Size}
 
@@ -44,22 +44,22 @@ coded (Size.Static n) h = sym (decode-static (omega (arith, ltb-false 2147483647
 coded Size.Dynamic h = refl
 coded Size.Unknown h = refl
 
-pub decode-low : (n : ℕ) → staticBits (decode n) ≤ 2147483647
+pub decode-low : (n : ℕ) → staticWidth (decode n) ≤ 2147483647
 unfolding decode
 decode-low n = by (ltb n 2147483648) refl
   where
-    other : (b : Bool) → staticBits (elim b [ true ↦ Size.Dynamic | false ↦ Size.Unknown ]) ≤ 2147483647
+    other : (b : Bool) → staticWidth (elim b [ true ↦ Size.Dynamic | false ↦ Size.Unknown ]) ≤ 2147483647
     other true = omega arith
     other false = omega arith
 
     by : (b : Bool) → ltb n 2147483648 ≡ b
-        → staticBits (elim b [ true ↦ Size.Static n | false ↦ elim (eqb n 2147483648) [ true ↦ Size.Dynamic | false ↦ Size.Unknown ] ]) ≤ 2147483647
+        → staticWidth (elim b [ true ↦ Size.Static n | false ↦ elim (eqb n 2147483648) [ true ↦ Size.Dynamic | false ↦ Size.Unknown ] ]) ≤ 2147483647
     by true e = omega (arith, ltb-true n 2147483648 e)
     by false e = other (eqb n 2147483648)
 
 -- ---- sums of what the tables give
 
-pub add-low : (a b : Size) → staticBits (addSize a b) ≤ staticBits a + staticBits b
+pub add-low : (a b : Size) → staticWidth (addSize a b) ≤ staticWidth a + staticWidth b
 add-low (Size.Static x) (Size.Static y) = omega arith
 add-low (Size.Static x) Size.Dynamic = omega arith
 add-low (Size.Static x) Size.Unknown = omega arith
@@ -71,9 +71,9 @@ add-low Size.Unknown Size.Dynamic = omega arith
 add-low Size.Unknown Size.Unknown = omega arith
 
 module _ {a b : Size} (u v : ℕ) (ea : a ≡ decode u) (eb : b ≡ decode v) where
-  pub two-fit : staticBits a + staticBits b < 2 ^ 64
+  pub two-fit : staticWidth a + staticWidth b < 2 ^ 64
   two-fit = rw (ea, eb) (omega (arith, decode-low u, decode-low v))
 
-  pub three-fit : {c x : Size} (w : ℕ) → c ≡ decode w → x ≡ addSize a b → staticBits x + staticBits c < 2 ^ 64
+  pub three-fit : {c x : Size} (w : ℕ) → c ≡ decode w → x ≡ addSize a b → staticWidth x + staticWidth c < 2 ^ 64
   three-fit w ec ex =
       rw (ex, ea, eb, ec) (omega (arith, add-low (decode u) (decode v), decode-low u, decode-low v, decode-low w))

@@ -6,8 +6,8 @@ use definitions::Size;
 ghost use mathlib.Core.Path.{_≡_};
 ghost use Prim.Native.Nat.{_+_, _*_, _<_, _^_};
 ghost use lib.ListN.{getD, set};
-ghost use Rattle.definitions.specs.Sizes.{addSize, mulSize, given, outerSize};
-ghost use Rattle.definitions.specs.Refusals.{staticBits, largeSize};
+ghost use Rattle.definitions.specs.Sizes.{addSize, mulSize, given, outerSize, staticWidth};
+ghost use Rattle.definitions.specs.Refusals.{largeSize};
 ghost use Rattle.definitions.specs.Tables.{encode, decode};
 ghost use Rattle.bits.specs.Capped.{cap, capped};
 
@@ -56,7 +56,7 @@ pub fn get_size(t: &[u64], i: usize) -> Size
 
 // `impl Add for Size`
 pub fn add_size(a: Size, b: Size) -> Size
-    requires { ⌜ staticBits a + staticBits b < 2 ^ 64 ⌝ }
+    requires { ⌜ staticWidth a + staticWidth b < 2 ^ 64 ⌝ }
     ensures { λ r. ⌜ r ≡ addSize a b ⌝ }
 {
     match a {
@@ -123,7 +123,7 @@ pub fn add_capped(a: Size, b: Size) -> Size
 }
 
 pub fn add_bits(bits: u64, z: Size) -> u64
-    ensures { λ r. ⌜ r ≡ cap (bits + staticBits z) ⌝ }
+    ensures { λ r. ⌜ r ≡ cap (bits + staticWidth z) ⌝ }
 {
     cap(cap(bits) + cap(static_bits(z)))
 }
@@ -141,7 +141,7 @@ pub fn large_size(z: Size) -> bool
 }
 
 pub fn static_bits(z: Size) -> u64
-    ensures { λ r. ⌜ r ≡ staticBits z ⌝ }
+    ensures { λ r. ⌜ r ≡ staticWidth z ⌝ }
 {
     match z {
         Size::Static(bits) => bits,

@@ -1,2 +1,3 @@
 pub mod Numerals
 pub mod Moves
+pub mod Windows

@@ -1,10 +1,15 @@
 // The stored form of cases (oracle/README.md, 'Cases'): a line `ANSWER RECORD_LENGTH LINES_LENGTH`, the bytes of the record, the bytes of its
-// lines. A case is found at a place of a slice; of a stream that arrives in pieces, `Cut` says that more bytes are needed behind the slice,
-// and `slide` moves what is not yet read to the front, to make room for them.
+// lines. A case is found at a place of a slice, where `Cut` says that more bytes are needed behind it. `next_case` finds the cases of a stream
+// that arrives in pieces, one after the other, in a window over it.
 
+use console::Input;
 use definitions::Part;
 ghost use mathlib.Core.Path.{_≡_};
+ghost use lib.ListN.{take};
 ghost use Rattle.cases.specs.Form.{numeralAt, partsAt, caseAt, Slid};
+ghost use Rattle.cases.specs.Window.{Refilled, lastOf, NextAt};
+
+// ---- a case in a slice
 
 // A number in the line of a case: its value and the place behind the byte that ends it.
 enum Numeral {
@@ -111,8 +116,23 @@ pub fn case_at(s: &[u8], at: usize) -> Stored
     }
 }
 
+// ---- the cases of a stream
+
+// The next case of a stream, where its record and its lines stand in the window, and up to where the window is filled; or its end, or that it
+// is no stream of cases. A case that is longer than the window breaks it off too.
+pub enum Next {
+    Case {
+        answer: u64,
+        record: Part,
+        lines: Part,
+        end: usize,
+    },
+    End,
+    Broken,
+}
+
 // Moves the bytes of a buffer from `at` up to `end` to its front, as many as it has, and gives their number.
-pub fn slide(buf: &mut [u8], at: usize, end: usize) -> usize
+fn slide(buf: &mut [u8], at: usize, end: usize) -> usize
     ensures { λ r. ⌜ Slid (now (buf .entry)) at end r (now (buf .exit)) ⌝ }
 {
     let mut i = 0;
@@ -126,4 +146,64 @@ pub fn slide(buf: &mut [u8], at: usize, end: usize) -> usize
         p += 1;
     }
     i
+}
+
+// Moves what is not yet read, from `at` up to `end`, to the front of the window, and fills it behind that: up to where it is filled.
+fn refill(fd: i32, window: &mut [u8], at: usize, end: usize) -> usize
+    ensures { λ r. ⌜ Refilled (now (window .entry)) at end r (now (window .exit)) ⌝ }
+{
+    let kept = slide(window, at, end);
+    match console::fill(fd, window, kept) {
+        Input::Full(n) => n,
+        Input::Ended(n) => n,
+        Input::Failed => kept,
+    }
+}
+
+// The case at the front of a window that was just filled.
+fn front_case(window: &[u8], end: usize) -> Next
+    ensures { λ r. ⌜ r ≡ lastOf (caseAt (take end (now (window .entry))) 0) end ⌝ }
+{
+    match case_at(console::front(window, end), 0) {
+        Stored::Case {
+            answer,
+            record,
+            lines,
+        } => Next::Case {
+            answer,
+            record,
+            lines,
+            end,
+        },
+        Stored::Wrong => Next::Broken,
+        Stored::Cut => {
+            if end == 0 {
+                return Next::End;
+            }
+            Next::Broken
+        }
+    }
+}
+
+// The case that begins at `at` of the window, which is filled up to `end` from the stream before; both are 0 at the stream's start.
+pub fn next_case(fd: i32, window: &mut [u8], at: usize, end: usize) -> Next
+    ensures { λ r. ⌜ NextAt (now (window .entry)) at end r (now (window .exit)) ⌝ }
+{
+    match case_at(console::front(window, end), at) {
+        Stored::Case {
+            answer,
+            record,
+            lines,
+        } => Next::Case {
+            answer,
+            record,
+            lines,
+            end,
+        },
+        Stored::Wrong => Next::Broken,
+        Stored::Cut => {
+            let filled = refill(fd, window, at, end);
+            front_case(window, filled)
+        }
+    }
 }

@@ -20,6 +20,7 @@ use Rattle.bit_fields.specs.declared.Source.{Source}
 use Rattle.bit_fields.specs.Kinds.{kindIn, kindText}
 use Rattle.chunk_lines.specs.declared.Chunk.{Chunk}
 use Rattle.chunk_lines.specs.declared.Held.{Held}
+use Rattle.chunk_lines.specs.declared.WholeChunk.{WholeChunk}
 use Rattle.chunk_lines.specs.Bits.{isReservedAt, heldAt, allReserved, sumTo, bitAt, bitsOf, bitsText, Narrow, Closed}
 
 -- ---- reserved fields
@@ -28,7 +29,7 @@ use Rattle.chunk_lines.specs.Bits.{isReservedAt, heldAt, allReserved, su
 pub reserved-arm : (k d : KindAt) (b : Bool) → k ≡ d → b ≡ isReservedAt d → b ≡ isReservedAt k
 reserved-arm k d b e h = h ∙ ap isReservedAt (sym e)
 
-same-reserved : (m : Arrays) (s word : Text) (k : KindAt) → isReserved (kindIn m s word k) ≡ isReservedAt k
+pub same-reserved : (m : Arrays) (s word : Text) (k : KindAt) → isReserved (kindIn m s word k) ≡ isReservedAt k
 unfolding kindIn
 same-reserved m s word KindAt.Reserved = refl
 same-reserved m s word (KindAt.Number name end) = refl
@@ -134,8 +135,8 @@ below-sum ws (suc n) i h = elim (decLt i n) [
   | no w ↦ (let e : i ≡ n = omega arith in omega (arith, ap (λ (k : ℕ). getD ws k 0) e))
 ]
 
-pub closed-narrow : (c : Chunk) (b w : ℕ) → Closed c b w → Narrow c
-closed-narrow c b w z = record {
+pub closed-narrow : (c : Chunk) (kinds : List Held) (whole : WholeChunk) → Closed c kinds whole → Narrow c
+closed-narrow c kinds whole z = record {
   short = z .short;
   narrow = λ i h. omega (arith, below-sum (c .widths) (c .len) i h, z .sum, z .small);
 }

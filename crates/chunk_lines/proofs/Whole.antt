@@ -1,6 +1,6 @@
--- The lines of a closed chunk, by its three ways: a skip, a read into its field, a read into a variable.
+-- The lines of a closed chunk, by its ways: a skip, a read into its one field, a read into a variable.
 -- Assumes nothing.
-use mathlib.Core.Bool.{Bool, true, false}
+use mathlib.Core.Bool.{Bool, true, false, _&&_}
 use mathlib.Core.List.{List, [], _∷_, _++_, append-assoc}
 use mathlib.Core.Path.{_≡_, refl, sym, ap, _∙_}
 use Prim.Native.Nat.{ℕ, _/_, _≤_}
@@ -15,12 +15,14 @@ use Rattle.stream.specs.Stream.{chunkText}
 use Rattle.stream.proofs.Texts.{line-leads}
 use Rattle.text.specs.Put.{Put}
 use Rattle.text.proofs.Puts.{chain, like}
+use Rattle.bit_fields.specs.declared.KindAt.{KindAt}
 use Rattle.bit_fields.specs.declared.Source.{Source}
 use Rattle.bit_fields.specs.Kinds.{kindText}
 use Rattle.chunk_lines.specs.declared.Chunk.{Chunk}
 use Rattle.chunk_lines.specs.declared.Held.{Held}
-use Rattle.chunk_lines.specs.Bits.{heldAt, allReserved, bitAt, bitsOf, bitsText, headText, Closed}
-use Rattle.chunk_lines.proofs.Fields.{bits-length, bits-skip, bits-widths}
+use Rattle.chunk_lines.specs.declared.WholeChunk.{WholeChunk}
+use Rattle.chunk_lines.specs.Bits.{isReservedAt, aloneOf, bitsOf, bitsText, headText, skipText, Closed}
+use Rattle.chunk_lines.proofs.Fields.{same-reserved, bits-length, bits-skip, bits-widths}
 
 pub head-line : (order : EndiannessValue) (nr backing w : ℕ) {l l₁ l₂ l₃ : Text} {i r₁ r₂ r₃ : ℕ}
     → Put l i (text "uint" ++ (decimal backing ++ text "_t chunk")) r₁ l₁ → Put l₁ r₁ ([] ++ (decimal nr ++ [])) r₂ l₂
@@ -44,50 +46,70 @@ module _ (order : EndiannessValue) (nr : ℕ) (bs : List Bit) where
   unfolding chunkText
   read-text e = rw e
 
-module _ (m : Arrays) (s word : Text) (order : EndiannessValue) (nr : ℕ) (c : Chunk) (kinds : List Held) (backing w : ℕ) (z : Closed c backing w)
-    {b : Bool} (a : b ≡ allReserved kinds (c .len)) where
+-- `span.skip(N); // skip reserved fields`
+pub skip-line : (bits : ℕ) {l l₁ : Text} {i r : ℕ} → Put l i (text "span.skip(" ++ (decimal (bits / 8) ++ text "); // skip reserved fields\n")) r l₁
+    → Put l i (skipText bits) r l₁
+unfolding skipText
+skip-line bits p = p
+
+-- ---- a chunk of one field
+
+module _ (m : Arrays) (s word : Text) (order : EndiannessValue) (width : ℕ) (kind : KindAt) {b : Bool} (a : b ≡ isReservedAt kind) where
+  abbrev alone : List Bit
+  alone = aloneOf m s word width kind
+
+  and-true : (x : Bool) → (x && true) ≡ x
+  and-true true = refl
+  and-true false = refl
+
+  skip-is : shouldSkipValue alone ≡ b
+  skip-is = and-true _ ∙ same-reserved m s word kind ∙ sym a
+
+  width-is : width ≡ widths alone
+  width-is = omega arith
+
+  pub alone-skip : b ≡ true → {l l₁ : Text} {i r : ℕ} → Put l i (skipText width) r l₁ → (nr : ℕ) → Put l i (chunkText order nr alone) r l₁
+  unfolding skipText
+  alone-skip e p nr = like (ap skipText width-is ∙ sym (skip-text order nr alone (skip-is ∙ e))) p
+
+  pub alone-read : b ≡ false → {l l₁ : Text} {i r : ℕ} → Put l i (kindText m s word (Source.Read order width) kind) r l₁
+      → (nr : ℕ) → Put l i (chunkText order nr alone) r l₁
+  unfolding kindText
+  alone-read e p nr =
+      like (ap (λ (k : ℕ). kindText m s word (Source.Read order k) kind) width-is ∙ sym (read-text order nr alone (skip-is ∙ e))) p
+
+-- ---- a larger one
+
+module _ (m : Arrays) (s word : Text) (order : EndiannessValue) (c : Chunk) (kinds : List Held) (whole : WholeChunk) (z : Closed c kinds whole) where
   abbrev fields : List Bit
   fields = bitsOf m s word c kinds (c .len)
 
-  sum : w ≡ widths fields
+  sum : whole .bits ≡ widths fields
   sum = z .sum ∙ sym (bits-widths m s word c kinds (c .len))
 
-  skips : b ≡ true → shouldSkipValue fields ≡ true
-  skips e = bits-skip m s word c kinds (c .len) ∙ sym a ∙ e
+  skips-as : {b : Bool} → whole .skip ≡ b → shouldSkipValue fields ≡ b
+  skips-as e = bits-skip m s word c kinds (c .len) ∙ sym (z .skips) ∙ e
 
-  reads : b ≡ false → shouldSkipValue fields ≡ false
-  reads e = bits-skip m s word c kinds (c .len) ∙ sym a ∙ e
+  pub chunk-skip : whole .skip ≡ true → {l l₁ : Text} {i r : ℕ} → Put l i (skipText (whole .bits)) r l₁
+      → Put l i (chunkText order (whole .nr) fields) r l₁
+  unfolding skipText
+  chunk-skip e p = like (ap skipText sum ∙ sym (skip-text order (whole .nr) fields (skips-as e))) p
 
-  pub chunk-skip : b ≡ true → {l l₁ : Text} {i r : ℕ}
-      → Put l i (text "span.skip(" ++ (decimal (w / 8) ++ text "); // skip reserved fields\n")) r l₁ → Put l i (chunkText order nr fields) r l₁
-  chunk-skip e p =
-      like
-      (ap (λ (k : ℕ). text "span.skip(" ++ (decimal (k / 8) ++ text "); // skip reserved fields\n")) sum
-      ∙ sym (skip-text order nr fields (skips e)))
-      p
+  abbrev first : ℕ → Line
+  first w = Line.set (Before.chunk (getCxxScalarType w)) (chunkName (whole .nr)) (readOf span order w)
 
-  one-field : c .len ≡ 1 → fields ≡ bitAt m s word c kinds 0 ∷ []
-  unfolding bitsOf
-  one-field e = ap (bitsOf m s word c kinds) e
+  abbrev rest : Text
+  rest = bitsText m s word (whole .nr) c kinds (c .len)
 
-  pub chunk-one : b ≡ false → c .len ≡ 1 → {l l₁ : Text} {i r : ℕ} → Put l i (kindText m s word (Source.Read order w) (heldAt kinds 0)) r l₁
-      → Put l i (chunkText order nr fields) r l₁
-  unfolding kindText
-  chunk-one e o p =
-      like
-      (ap (λ (k : ℕ). kindText m s word (Source.Read order k) (heldAt kinds 0)) sum
-      ∙ ap (λ (x : List Bit). linesText 0 (readLines order nr (widths fields) x) []) (sym (one-field o))
-      ∙ sym (read-text order nr fields (reads e)))
-      p
-
-  pub chunk-many : b ≡ false → (c .len ≡ 1 → ⊥) → {l l₁ l₂ : Text} {i r t : ℕ} → Put l i (headText order nr backing w) r l₁
-      → Put l₁ r (bitsText m s word nr c kinds (c .len)) t l₂ → Put l i (chunkText order nr fields) t l₂
+  pub chunk-many : whole .skip ≡ false → {l l₁ l₂ : Text} {i r t : ℕ} → Put l i (headText order (whole .nr) (whole .backing) (whole .bits)) r l₁
+      → Put l₁ r rest t l₂ → Put l i (chunkText order (whole .nr) fields) t l₂
   unfolding headText bitsText
-  chunk-many e o p q =
+  chunk-many e p q =
       like
-      (ap (λ (k : ℕ). headText order nr k w ++ bitsText m s word nr c kinds (c .len)) (z .type)
-      ∙ ap (λ (k : ℕ). headText order nr (getCxxScalarType k) k ++ bitsText m s word nr c kinds (c .len)) sum
-      ∙ sym (line-leads 0 (Line.set (Before.chunk (getCxxScalarType (widths fields))) (chunkName nr) (readOf span order (widths fields))) .split [] (bitsText m s word nr c kinds (c .len)))
-      ∙ ap (λ (x : List Line). linesText 0 x []) (sym (read-many order nr (widths fields) fields (omega (arith, bits-length m s word c kinds (c .len), z .some))))
-      ∙ sym (read-text order nr fields (reads e)))
+      (ap (λ (k : ℕ). headText order (whole .nr) k (whole .bits) ++ rest) (z .type)
+      ∙ ap (λ (k : ℕ). headText order (whole .nr) (getCxxScalarType k) k ++ rest) sum
+      ∙ sym (line-leads 0 (first (widths fields)) .split [] rest)
+      ∙ ap (λ (x : List Line). linesText 0 x [])
+      (sym (read-many order (whole .nr) (widths fields) fields (omega (arith, bits-length m s word c kinds (c .len), z .more))))
+      ∙ sym (read-text order (whole .nr) fields (skips-as e)))
       (chain p q)

@@ -3,7 +3,7 @@
 use mathlib.Core.Bool.{Bool, true, false, _&&_}
 use mathlib.Core.List.{List, [], _∷_, _++_}
 use mathlib.Core.Path.{_≡_}
-use Prim.Native.Nat.{ℕ, zero, suc, _+_, _≤_, _<_}
+use Prim.Native.Nat.{ℕ, zero, suc, _+_, _/_, _≤_, _<_}
 use lib.ListN.{getD}
 use Rattle.definitions.specs.Bytes.{Text}
 use Rattle.definitions.specs.Lines.{Line, Before, lineText, linesText}
@@ -14,6 +14,7 @@ use Rattle.bit_fields.specs.declared.KindAt.{KindAt}
 use Rattle.bit_fields.specs.Kinds.{kindIn}
 use Rattle.chunk_lines.specs.declared.Chunk.{Chunk}
 use Rattle.chunk_lines.specs.declared.Held.{Held}
+use Rattle.chunk_lines.specs.declared.WholeChunk.{WholeChunk}
 
 abbrev pub isReservedAt : KindAt → Bool
 isReservedAt KindAt.Reserved = true
@@ -48,7 +49,15 @@ unfoldable pub bitsOf : Arrays → Text → Text → Chunk → List Held → ℕ
 bitsOf m s word c kinds zero = []
 bitsOf m s word c kinds (suc n) = bitsOf m s word c kinds n ++ (bitAt m s word c kinds n ∷ [])
 
+-- a chunk of one field
+abbrev pub aloneOf : Arrays → Text → Text → ℕ → KindAt → List Bit
+aloneOf m s word width kind = record { shift = 0; width = width; kind = kindIn m s word kind } ∷ []
+
 -- ---- bytes
+
+-- `span.skip(N); // skip reserved fields`
+unfoldable pub skipText : ℕ → Text
+skipText bits = lineText 0 (Line.reserved span (bits / 8)) []
 
 -- the lines of the first n fields, out of the chunk's variable
 unfoldable pub bitsText : Arrays → Text → Text → ℕ → Chunk → List Held → ℕ → Text
@@ -65,10 +74,11 @@ pub record Narrow (c : Chunk) : Type 0 where
   pub short : c .len ≤ 64
   pub narrow : (i : ℕ) → i < c .len → getD (c .widths) i 0 ≤ 64
 
--- at an octet boundary, with w bits and their backing type
-pub record Closed (c : Chunk) (backing w : ℕ) : Type 0 where
+-- two fields or more at an octet boundary, with their bits and the backing type
+pub record Closed (c : Chunk) (kinds : List Held) (whole : WholeChunk) : Type 0 where
   pub short : c .len ≤ 64
-  pub some : 0 < c .len
-  pub sum : w ≡ sumTo (c .widths) (c .len)
-  pub small : w ≤ 64
-  pub type : backing ≡ getCxxScalarType w
+  pub more : 1 < c .len
+  pub sum : whole .bits ≡ sumTo (c .widths) (c .len)
+  pub small : whole .bits ≤ 64
+  pub type : whole .backing ≡ getCxxScalarType (whole .bits)
+  pub skips : whole .skip ≡ allReserved kinds (c .len)

@@ -4,11 +4,13 @@ use bit_fields::KindAt;
 use bit_fields::Source;
 use definitions::Arrays;
 use definitions::EndiannessValue;
+use definitions::Options;
 ghost use mathlib.Core.Path.{_≡_};
-ghost use Prim.Native.Nat.{_≤_, _<_};
+ghost use Prim.Native.Nat.{ℕ, _≤_, _<_};
+ghost use Rattle.definitions.specs.Bytes.{Text};
 ghost use Rattle.text.specs.Put.{Put};
 ghost use Rattle.stream.specs.Stream.{chunkText};
-ghost use Rattle.chunk_lines.specs.Bits.{isReservedAt, allReserved, Narrow, bitsOf, bitsText, headText, Closed};
+ghost use Rattle.chunk_lines.specs.Bits.{isReservedAt, allReserved, Narrow, aloneOf, bitsOf, bitsText, headText, skipText, Closed};
 
 // The shifts and the widths of its fields.
 pub struct Chunk {
@@ -20,6 +22,14 @@ pub struct Chunk {
 // What one of its fields is: the kinds stand in an array beside the chunk.
 pub struct Held {
     pub kind: KindAt,
+}
+
+// A closed chunk as a whole: its number, its bits and their backing type, and whether all of its fields are reserved.
+pub struct WholeChunk {
+    pub nr: u64,
+    pub bits: u64,
+    pub backing: u64,
+    pub skip: bool,
 }
 
 fn is_reserved(k: KindAt) -> bool
@@ -104,39 +114,63 @@ fn put_head(
     expressions::put_read(out, q, b" = ", b"span", order, w, b";\n")
 }
 
-// The lines of a closed chunk of w bits, with its number.
+// A skip of so many bits.
+fn put_skip(out: &mut [u8], at: usize, bits: u64) -> usize
+    ensures { λ r. ⌜ Put (now (out .entry)) at (skipText bits) r (now (out .exit)) ⌝ }
+{
+    text::put_number(
+        out,
+        at,
+        b"span.skip(",
+        bits / 8,
+        b"); // skip reserved fields\n",
+    )
+}
+
+// The lines of a chunk of one field; it has no number.
+pub fn put_alone<'a>(
+    rec: &'a [u8],
+    word: &'a [u8],
+    out: &mut [u8],
+    at: usize,
+    options: Options,
+    width: u64,
+    kind: KindAt,
+) -> usize
+    ensures { λ r. let s : Text = now (rec .entry) in let w : Text = now (word .entry) in
+        ⌜ ((nr : ℕ) → Put (now (out .entry)) at (chunkText (options .endianness) nr (aloneOf (options .arrays) s w width kind)) r (now (out .exit))) ⌝ }
+{
+    if is_reserved(kind) {
+        return put_skip(out, at, width);
+    }
+    let order = options.endianness;
+    let arrays = options.arrays;
+    let v = Source::Read { order, width };
+    bit_fields::put_kind(rec, word, out, at, arrays, v, kind)
+}
+
+// The lines of a larger chunk.
 pub fn put_chunk<'a>(
     rec: &'a [u8],
     word: &'a [u8],
     out: &mut [u8],
     at: usize,
-    m: Arrays,
-    order: EndiannessValue,
-    nr: u64,
+    options: Options,
     c: Chunk,
     kinds: [Held; 64],
-    backing: u64,
-    w: u64,
+    whole: WholeChunk,
 ) -> usize
-    requires { ⌜ Closed c backing w ⌝ }
-    ensures { λ r. ⌜ Put (now (out .entry)) at (chunkText order nr (bitsOf m (now (rec .entry)) (now (word .entry)) c kinds (c .len))) r (now (out .exit)) ⌝ }
+    requires { ⌜ Closed c kinds whole ⌝ }
+    ensures { λ r. let s : Text = now (rec .entry) in let w : Text = now (word .entry) in
+        ⌜ Put (now (out .entry)) at (chunkText (options .endianness) (whole .nr) (bitsOf (options .arrays) s w c kinds (c .len))) r (now (out .exit)) ⌝ }
 {
-    let n = c.len;
-    if should_skip_value(kinds, n) {
-        return text::put_number(
-            out,
-            at,
-            b"span.skip(",
-            w / 8,
-            b"); // skip reserved fields\n",
-        );
+    let bits = whole.bits;
+    if whole.skip {
+        return put_skip(out, at, bits);
     }
-    if n == 1 {
-        let h = kinds[0];
-        let k = h.kind;
-        let v = Source::Read { order, width: w };
-        return bit_fields::put_kind(rec, word, out, at, m, v, k);
-    }
-    let p = put_head(out, at, order, nr, backing, w);
-    put_bits(rec, word, out, p, m, nr, c, kinds)
+    let nr = whole.nr;
+    let order = options.endianness;
+    let arrays = options.arrays;
+    let p = put_head(out, at, order, nr, whole.backing, bits);
+    put_bits(rec, word, out, p, arrays, nr, c, kinds)
 }

@@ -1,35 +1,33 @@
--- `check_code`, by its tests.
+-- `check_code`, by its tests; it is the stream's flush.
 -- Assumes nothing.
 use mathlib.Core.Bool.{Bool, true, false}
-use mathlib.Core.Path.{_≡_, refl, sym, ap, _∙_}
-use lib.Dec.{eqb}
+use mathlib.Core.List.{List, [], _∷_}
+use mathlib.Core.Path.{_≡_, refl, sym}
+use Prim.Native.Nat.{ℕ}
+use native.Mathlib.Omega.{arith}
+use lib.ListN.{length}
 use borrow.Author.Tests.{eq-eqb, ne-eqb}
+use Rattle.definitions.specs.Blocks.{Bit}
 use Rattle.definitions.specs.declared.Refusal.{Refusal}
 use Rattle.definitions.specs.declared.Verdict.{Verdict}
-use Rattle.chunks.specs.declared.State.{State}
-use Rattle.chunks.specs.declared.Checked.{Checked}
-use Rattle.chunks.specs.Steps.{calmState, codeChecked}
+use Rattle.plans.specs.Told.{flushVerdict}
+use Rattle.chunks.specs.Steps.{codeVerdict}
 
-module _ (t : State) where
-  abbrev codeBy : Bool → Bool → Checked
-  codeBy p b = elim p [
-    | true ↦ elim b [
-      | true ↦ record { verdict = Verdict.Pass; state = calmState t }
-      | false ↦ record { verdict = Verdict.Refuse Refusal.OpenChunk; state = t }
-    ]
-    | false ↦ record { verdict = Verdict.Pass; state = t }
-  ]
+module _ (len : ℕ) {p : Bool} where
+  pub code-flushed : p ≡ true → len ≡ 0 → Verdict.Pass ≡ codeVerdict p len
+  unfolding codeVerdict
+  code-flushed e h = rw (e, eq-eqb _ _ h, codeVerdict)
 
-  pub code-by : (p b : Bool) → t .pending ≡ p → eqb (t .chunk .len) 0 ≡ b → codeChecked t ≡ codeBy p b
-  unfolding codeChecked
-  code-by p b e f = ap (λ (x : Bool). codeBy x (eqb (t .chunk .len) 0)) e ∙ ap (codeBy p) f
+  pub code-open : p ≡ true → (len ≡ 0 → ⊥) → Verdict.Refuse Refusal.OpenChunk ≡ codeVerdict p len
+  unfolding codeVerdict
+  code-open e h = rw (e, ne-eqb _ _ h, codeVerdict)
 
-  pub code-flushed : t .pending ≡ true → t .chunk .len ≡ 0 → _≡_ {A = Checked} (record { verdict = Verdict.Pass; state = calmState t }) (codeChecked t)
-  code-flushed e h = sym (code-by true true e (eq-eqb _ _ h))
+  pub code-none : p ≡ false → Verdict.Pass ≡ codeVerdict p len
+  unfolding codeVerdict
+  code-none e = rw (e, codeVerdict)
 
-  pub code-open : t .pending ≡ true → (t .chunk .len ≡ 0 → ⊥)
-      → _≡_ {A = Checked} (record { verdict = Verdict.Refuse Refusal.OpenChunk; state = t }) (codeChecked t)
-  code-open e h = sym (code-by true false e (ne-eqb _ _ h))
-
-  pub code-none : t .pending ≡ false → _≡_ {A = Checked} (record { verdict = Verdict.Pass; state = t }) (codeChecked t)
-  code-none e = sym (code-by false (eqb (t .chunk .len) 0) e refl)
+-- the chunk has as many fields as its length says
+pub code-flushes : (p : Bool) (bs : List Bit) (len : ℕ) → length bs ≡ len → codeVerdict p len ≡ flushVerdict p bs
+code-flushes false bs len e = sym (code-none len refl)
+code-flushes true [] len e = sym (code-flushed len refl (sym e))
+code-flushes true (b ∷ bs) len e = sym (code-open len refl (λ q. omega (arith, q, e)))

@@ -2,13 +2,13 @@
 -- Assumes nothing.
 use mathlib.Core.Bool.{Bool, true, false}
 use mathlib.Core.List.{List, [], _∷_, _++_}
-use mathlib.Core.Path.{_≡_, refl, sym, _∙_}
+use mathlib.Core.Path.{_≡_, refl, sym, ap, _∙_}
 use Prim.Native.Nat.{ℕ, _+_, _≤_, _<_, _^_}
 use native.Mathlib.Omega.{arith}
 use lib.Dec.{ltb}
 use lib.ListN.{length}
-use borrow.Author.Tests.{lt-ltb, le-ltb, ltb-true, ltb-false}
-use Rattle.definitions.specs.Bytes.{Text, text, decimal}
+use borrow.Author.Tests.{ltb-true, ltb-false}
+use Rattle.definitions.specs.Bytes.{Text, text, pick, decimal}
 use Rattle.definitions.specs.Blocks.{Bit, shouldSkipValue, getCxxScalarType}
 use Rattle.definitions.specs.FieldParser.{nextNr}
 use Rattle.definitions.specs.declared.Arrays.{Arrays}
@@ -21,56 +21,31 @@ use Rattle.chunk_lines.specs.declared.Chunk.{Chunk}
 use Rattle.chunk_lines.specs.declared.Held.{Held}
 use Rattle.chunk_lines.specs.Bits.{allReserved, bitsOf}
 use Rattle.chunk_lines.proofs.Fields.{bits-length, bits-skip}
-use Rattle.chunks.specs.Steps.{nextOf}
+use Rattle.chunks.specs.Steps.{nextBy}
 
 -- ---- the number of the next chunk
 
-module _ (kinds : List Held) (n nr : ℕ) {b : Bool} (a : b ≡ allReserved kinds n) where
-  pub nr-skip : b ≡ true → nr ≡ nextOf kinds n nr
-  unfolding nextOf
-  nr-skip e = rw (sym a ∙ e, nextOf)
+pub nr-skip : (nr : ℕ) {b : Bool} → b ≡ true → nr ≡ nextBy b nr
+nr-skip nr e = rw e
 
-  pub nr-one : b ≡ false → n < 2 → nr ≡ nextOf kinds n nr
-  unfolding nextOf
-  nr-one e h = rw (sym a ∙ e, lt-ltb n 2 h, nextOf)
-
-  pub nr-more : b ≡ false → 2 ≤ n → nr + 1 ≡ nextOf kinds n nr
-  unfolding nextOf
-  nr-more e h = rw (sym a ∙ e, le-ltb n 2 h, nextOf)
-
-module _ (nr : ℕ) where
-  next-skip : (bs : List Bit) → shouldSkipValue bs ≡ true → nextNr nr bs ≡ nr
-  next-skip [] e = refl
-  next-skip (b ∷ []) e = refl
-  next-skip (b ∷ d ∷ bs) e = rw e
-
-  next-one : (bs : List Bit) → length bs < 2 → nextNr nr bs ≡ nr
-  next-one [] h = refl
-  next-one (b ∷ []) h = refl
-  next-one (b ∷ d ∷ bs) h = absurd (omega arith)
-
-  next-more : (bs : List Bit) → shouldSkipValue bs ≡ false → 2 ≤ length bs → nextNr nr bs ≡ nr + 1
-  next-more [] e h = absurd (omega arith)
-  next-more (b ∷ []) e h = absurd (omega arith)
-  next-more (b ∷ d ∷ bs) e h = rw e
+pub nr-more : (nr : ℕ) {b : Bool} → b ≡ false → nr + 1 ≡ nextBy b nr
+nr-more nr e = rw e
 
 -- it is that of the definitions
-module _ (m : Arrays) (s word : Text) (c : Chunk) (kinds : List Held) (n nr : ℕ) where
-  abbrev bits : List Bit
-  bits = bitsOf m s word c kinds n
+next-many : (nr : ℕ) (bs : List Bit) → 1 < length bs → nextBy (shouldSkipValue bs) nr ≡ nextNr nr bs
+next-many nr [] h = absurd (omega arith)
+next-many nr (b ∷ []) h = absurd (omega arith)
+next-many nr (b ∷ d ∷ bs) h = by (shouldSkipValue (b ∷ d ∷ bs))
+  where
+    by : (x : Bool) → nextBy x nr ≡ pick x nr (nr + 1)
+    by true = refl
+    by false = refl
 
-  by-tests : (b k : Bool) → allReserved kinds n ≡ b → ltb n 2 ≡ k → nextOf kinds n nr ≡ nextNr nr bits
-  by-tests true k e f = sym (nr-skip kinds n nr (sym e) refl) ∙ sym (next-skip nr bits (bits-skip m s word c kinds n ∙ e))
-  by-tests false true e f =
-      let h : n < 2 = ltb-true n 2 f in
-      sym (nr-one kinds n nr (sym e) refl h) ∙ sym (next-one nr bits (omega (arith, bits-length m s word c kinds n)))
-  by-tests false false e f =
-      let h : 2 ≤ n = ltb-false n 2 f in
-      sym (nr-more kinds n nr (sym e) refl h)
-      ∙ sym (next-more nr bits (bits-skip m s word c kinds n ∙ e) (omega (arith, bits-length m s word c kinds n)))
-
-  pub next-of : nextOf kinds n nr ≡ nextNr nr bits
-  next-of = by-tests (allReserved kinds n) (ltb n 2) refl refl
+pub next-of : (m : Arrays) (s word : Text) (c : Chunk) (kinds : List Held) (nr : ℕ) {b : Bool} → b ≡ allReserved kinds (c .len) → 1 < c .len
+    → nextBy b nr ≡ nextNr nr (bitsOf m s word c kinds (c .len))
+next-of m s word c kinds nr e h =
+    ap (λ (x : Bool). nextBy x nr) (e ∙ sym (bits-skip m s word c kinds (c .len)))
+    ∙ next-many nr (bitsOf m s word c kinds (c .len)) (omega (arith, h, bits-length m s word c kinds (c .len)))
 
 -- ---- the scalar type
 

@@ -1,12 +1,11 @@
--- The `if` names of a list of fields, and two tables that have their starts and ends. In proofs/Agree, `is-cond` says that looking among the names
--- is the definitions' `isCondFor`, `gathered-names` that tables long enough give the names back.
+-- The `if` names of a list of fields, and a table that has them. In proofs/Agree, `is-cond` says that looking among the names is the definitions'
+-- `isCondFor`, `gathered-names` that the table gives the names back.
 -- Assumes nothing.
 use mathlib.Core.Bool.{Bool}
 use mathlib.Core.List.{List, [], _∷_, _++_}
 use mathlib.Core.Path.{_≡_}
-use Prim.Native.Nat.{ℕ, zero, suc, _+_}
-use lib.ListN.{length, getD}
-use lib.Seq.{sets}
+use Prim.Native.Nat.{ℕ, _+_, _*_, _≤_}
+use lib.ListN.{length, take}
 use Rattle.definitions.specs.Bytes.{Text, any}
 use Rattle.definitions.specs.Record.{partOf}
 use Rattle.definitions.specs.Sizes.{sameName}
@@ -28,23 +27,24 @@ condNames (f ∷ fs) = ifName (f .cond) ++ condNames fs
 unfoldable pub isCondIn : Text → List Part → Part → Bool
 isCondIn s names id = any (λ (name : Part). sameName s name id) names
 
--- ---- the tables
+-- ---- the table: a name is two numbers, its start and its end
 
-abbrev pub startsOf : List Part → List ℕ
-startsOf [] = []
-startsOf (p ∷ ps) = p .start ∷ startsOf ps
+abbrev pub numbersOf : List Part → List ℕ
+numbersOf [] = []
+numbersOf (p ∷ ps) = p .start ∷ p .end ∷ numbersOf ps
 
-abbrev pub endsOf : List Part → List ℕ
-endsOf [] = []
-endsOf (p ∷ ps) = p .end ∷ endsOf ps
+-- the names of a whole table
+unfoldable pub namesIn : List ℕ → List Part
+namesIn [] = []
+namesIn (a ∷ []) = []
+namesIn (a ∷ e ∷ l) = partOf a e ∷ namesIn l
 
--- m names, as the tables have them from j on
-unfoldable pub namesFrom : List ℕ → List ℕ → ℕ → ℕ → List Part
-namesFrom starts ends j zero = []
-namesFrom starts ends j (suc m) = partOf (getD starts j 0) (getD ends j 0) ∷ namesFrom starts ends (j + 1) m
-
--- the names were written behind the m that the tables had; r is their number then
-pub record Gathered (names : List Part) (starts ends : List ℕ) (m r : ℕ) (starts′ ends′ : List ℕ) : Type 0 where
+-- the names stand behind the m that the table had; r is their number then
+pub record Behind (names : List Part) (m : ℕ) (conds : List ℕ) (r : ℕ) (conds′ : List ℕ) : Type 0 where
   pub number : r ≡ m + length names
-  pub starts-are : starts′ ≡ sets starts m (startsOf names)
-  pub ends-are : ends′ ≡ sets ends m (endsOf names)
+  pub are : take (2 * r) conds′ ≡ take (2 * m) conds ++ numbersOf names
+
+-- the first r names of the table
+pub record Gathered (names : List Part) (r : ℕ) (conds : List ℕ) : Type 0 where
+  pub fits : 2 * r ≤ length conds
+  pub are : take (2 * r) conds ≡ numbersOf names

@@ -20,7 +20,7 @@ use Rattle.definitions.specs.declared.Verdict.{Verdict}
 -- `FieldParser::new`: the record, the head's choices and the target
 abbrev pub settingOf : Text → Head → Entry → Setting
 settingOf s h e =
-    record { source = s; scope = e .earlier; endianness = h .endianness; arrays = h .arrays; fields = e .declaration .fields }
+    record { source = s; scope = e .earlier; options = h .options; fields = e .declaration .fields }
 
 abbrev pub lowerTarget : Text → Head → Entry → Outcome
 lowerTarget s h e = lowerFields (settingOf s h e) (e .fields)

@@ -326,8 +326,8 @@ sizeName a = named (a .mode) (a .id) (text "_size_")
 -- the size modifier, `x = x - m;`, of a variable so many bits wide, and the array
 abbrev pub modifierLines : Modifier → ℕ → Text → List Stmt → List Stmt
 modifierLines Modifier.None w x l = l
-modifierLines (Modifier.Plus n) w x l = Stmt.one (Line.lower w x n) ∷ l
-modifierLines (Modifier.Minus n) w x l = Stmt.one (Line.raise w x n) ∷ l
+modifierLines (Modifier.Plus n) w x l = Stmt.one (Line.minus w x n) ∷ l
+modifierLines (Modifier.Minus n) w x l = Stmt.one (Line.plus w x n) ∷ l
 
 abbrev pub fieldLines : Modifier → ℕ → Array → List Stmt → List Stmt
 fieldLines m w a l = modifierLines m w (sizeName a) (arrayLines a l)

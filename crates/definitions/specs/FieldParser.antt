@@ -5,14 +5,15 @@ use mathlib.Core.List.{List, [], _∷_, _++_}
 use Prim.Native.Nat.{ℕ, _+_, _/_, _%_}
 use lib.Dec.{ltb, eqb}
 use Rattle.definitions.specs.Bytes.{Text, text, pick, any, part}
-use Rattle.definitions.specs.Sizes.{Row, Annotated, EnumOf, enumIs, noEnum, enumOf, isBitfield, isPayloadId, hasPayloadSize, reference, sameName, elementSize, arraySize}
+use Rattle.definitions.specs.Sizes.{Row, Annotated, enumOf, isBitfield, isPayloadId, hasPayloadSize, reference, sameName, elementSize, arraySize, staticWidth}
 use Rattle.definitions.specs.Blocks.{Kind, Bit, Chunk, shouldSkipValue, getCxxScalarType, Elem, Array, named, Block}
+use Rattle.definitions.specs.declared.EnumOf.{EnumOf}
 use Rattle.definitions.specs.declared.Part.{Part}
 use Rattle.definitions.specs.declared.MaybePart.{MaybePart}
 use Rattle.definitions.specs.declared.MaybeNumber.{MaybeNumber}
 use Rattle.definitions.specs.declared.Modifier.{Modifier}
 use Rattle.definitions.specs.declared.EndiannessValue.{EndiannessValue}
-use Rattle.definitions.specs.declared.Arrays.{Arrays}
+use Rattle.definitions.specs.declared.Options.{Options}
 use Rattle.definitions.specs.declared.FieldDesc.{FieldDesc}
 use Rattle.definitions.specs.declared.Cond.{Cond}
 use Rattle.definitions.specs.declared.Field.{Field}
@@ -27,9 +28,8 @@ pub record Setting : Type 0 where
   pub source : Text
   -- `scope`, and what is looked up in `schema`: the rows of the declarations before the target
   pub scope : List Row
-  pub endianness : EndiannessValue
-  -- `extract_arrays`, and so `target_prefix`
-  pub arrays : Arrays
+  -- the head's choices: `endianness`; `extract_arrays`, and so `target_prefix`
+  pub options : Options
   -- `decl.fields()`
   pub fields : List Field
 
@@ -73,7 +73,7 @@ flush c p =
       chunk = p .chunk;
       chunkNr = p .chunkNr;
       uncheckedCode = [];
-      code = p .code ++ (Block.checked (c .endianness) (p .offset) (p .uncheckedCode) ∷ []);
+      code = p .code ++ (Block.checked (c .options .endianness) (p .offset) (p .uncheckedCode) ∷ []);
     }
 
 -- 10: lines are pending, and a chunk is open
@@ -93,7 +93,7 @@ written c name = part (c .source) name
 
 -- `{prefix}{id}_`
 abbrev pub member : Setting → Part → Text
-member c id = named (c .arrays) (written c id) (text "_")
+member c id = named (c .options .arrays) (written c id) (text "_")
 
 -- `field_name`: `payload` for `_payload_` and `_body_`
 abbrev pub fieldName : Setting → Part → Text
@@ -111,16 +111,16 @@ isCondFor c id = any (λ (f : Field). isCondOf (c .source) id (f .cond)) (c .fie
 
 -- a closed enum is tested by `IsValid`; `complete` spares the test here
 abbrev pub enumKind : Text → Text → EnumOf → Kind
-enumKind x type (enumIs width isOpen isComplete) = pick (isOpen || isComplete) (Kind.openEnum x type) (Kind.closedEnum x type)
-enumKind x type noEnum = Kind.number x
+enumKind x type (EnumOf.Enum width isOpen isComplete) = pick (isOpen || isComplete) (Kind.openEnum x type) (Kind.closedEnum x type)
+enumKind x type EnumOf.None = Kind.number x
 
 -- the arms of its `match`; the kinds that are no bit field are never reached
 unfoldable pub kindOf : Setting → FieldDesc → Kind
 kindOf c (FieldDesc.Checksum of) = Kind.reserved
 kindOf c (FieldDesc.Padding size) = Kind.reserved
-kindOf c (FieldDesc.Size of width) = Kind.number (named (c .arrays) (fieldName c of) (text "_size_"))
-kindOf c (FieldDesc.Count of width) = Kind.number (named (c .arrays) (written c of) (text "_count_"))
-kindOf c (FieldDesc.ElementSize of width) = Kind.number (named (c .arrays) (fieldName c of) (text "_element_size_"))
+kindOf c (FieldDesc.Size of width) = Kind.number (named (c .options .arrays) (fieldName c of) (text "_size_"))
+kindOf c (FieldDesc.Count of width) = Kind.number (named (c .options .arrays) (written c of) (text "_count_"))
+kindOf c (FieldDesc.ElementSize of width) = Kind.number (named (c .options .arrays) (fieldName c of) (text "_element_size_"))
 kindOf c FieldDesc.Body = Kind.reserved
 kindOf c (FieldDesc.Payload modifier) = Kind.reserved
 kindOf c (FieldDesc.FixedScalar width value) = Kind.fixedScalar value
@@ -130,12 +130,6 @@ kindOf c (FieldDesc.Array id width type modifier size) = Kind.reserved
 kindOf c (FieldDesc.Scalar id width) = pick (isCondFor c id) (Kind.condition (written c id)) (Kind.number (member c id))
 kindOf c (FieldDesc.Flag id) = Kind.condition (written c id)
 kindOf c (FieldDesc.Typedef id type) = enumKind (member c id) (written c type) (enumOf (c .source) (c .scope) type)
-
--- `static_().unwrap()`
-abbrev pub staticWidth : Size → ℕ
-staticWidth (Size.Static width) = width
-staticWidth Size.Dynamic = 0
-staticWidth Size.Unknown = 0
 
 abbrev pub bitOf : Setting → ℕ → Annotated → Bit
 bitOf c shift a = record { shift = shift; width = staticWidth (a .fieldSize); kind = kindOf c (a .field .desc) }
@@ -227,11 +221,11 @@ parseTypedefField c shift a id type later = onBoundary shift (typedefBySize c id
 -- ---- `parse_optional_field`
 
 abbrev pub optionalTypedef : Setting → Part → ℕ → Part → Part → EnumOf → Block
-optionalTypedef c cond value id type (enumIs width isOpen isComplete) =
+optionalTypedef c cond value id type (EnumOf.Enum width isOpen isComplete) =
     pick isOpen
-    (Block.optionalOpen (written c cond) value (c .endianness) width (member c id) (written c type))
-    (Block.optionalClosed (written c cond) value (c .endianness) width (member c id) (written c type))
-optionalTypedef c cond value id type noEnum = Block.optionalNested (written c cond) value (member c id) (written c type)
+    (Block.optionalOpen (written c cond) value (c .options .endianness) width (member c id) (written c type))
+    (Block.optionalClosed (written c cond) value (c .options .endianness) width (member c id) (written c type))
+optionalTypedef c cond value id type EnumOf.None = Block.optionalNested (written c cond) value (member c id) (written c type)
 
 -- 13: neither scalar nor typedef
 abbrev pub unsupported : Emit
@@ -250,7 +244,7 @@ parseOptionalField c cond value (FieldDesc.FixedEnum type tag) = unsupported
 parseOptionalField c cond value (FieldDesc.Reserved width) = unsupported
 parseOptionalField c cond value (FieldDesc.Array id width type modifier size) = unsupported
 parseOptionalField c cond value (FieldDesc.Scalar id width) =
-    appends (Block.optionalScalar (written c cond) value (c .endianness) width (member c id))
+    appends (Block.optionalScalar (written c cond) value (c .options .endianness) width (member c id))
 parseOptionalField c cond value (FieldDesc.Flag id) = unsupported
 parseOptionalField c cond value (FieldDesc.Typedef id type) =
     appends (optionalTypedef c cond value id type (enumOf (c .source) (c .scope) type))
@@ -258,7 +252,7 @@ parseOptionalField c cond value (FieldDesc.Typedef id type) =
 -- ---- `parse_payload_field_lite`, of a payload and of a body
 
 abbrev pub payloadName : Setting → Text → Text
-payloadName c end = named (c .arrays) (text "payload") end
+payloadName c end = named (c .options .arrays) (text "payload") end
 
 abbrev pub unsizedPayload : Text → ℕ → Block
 unsizedPayload x bits = pick (ltb 0 bits) (Block.payloadUpTo x (bits / 8)) (Block.payloadToEnd x)
@@ -289,12 +283,12 @@ sizeBacking s id (f ∷ fs) =
 
 -- the element: `complete` spares no test here
 abbrev pub typedElem : EndiannessValue → Text → EnumOf → Elem
-typedElem order type (enumIs width isOpen isComplete) = pick isOpen (Elem.openEnum type order width) (Elem.closedEnum type order width)
-typedElem order type noEnum = Elem.parsed type
+typedElem order type (EnumOf.Enum width isOpen isComplete) = pick isOpen (Elem.openEnum type order width) (Elem.closedEnum type order width)
+typedElem order type EnumOf.None = Elem.parsed type
 
 abbrev pub elemOf : Setting → MaybeNumber → MaybePart → Elem
-elemOf c (MaybeNumber.Some width) type = Elem.scalar (c .endianness) width
-elemOf c MaybeNumber.None (MaybePart.Some type) = typedElem (c .endianness) (written c type) (enumOf (c .source) (c .scope) type)
+elemOf c (MaybeNumber.Some width) type = Elem.scalar (c .options .endianness) width
+elemOf c MaybeNumber.None (MaybePart.Some type) = typedElem (c .options .endianness) (written c type) (enumOf (c .source) (c .scope) type)
 elemOf c MaybeNumber.None MaybePart.None = Elem.parsed []
 
 -- the type's name; empty where the elements have a width
@@ -305,7 +299,7 @@ typeName c (MaybePart.Some type) = written c type
 abbrev pub arrayOf : Setting → Part → MaybeNumber → MaybePart → MaybeNumber → Array
 arrayOf c id width type size =
     record {
-      mode = c .arrays;
+      mode = c .options .arrays;
       id = written c id;
       type = typeName c type;
       elementSize = elementSize (c .source) (c .scope) (c .fields) id width type;

@@ -72,7 +72,7 @@ pub data Line : Type 0 where
   -- `B x = e;`
   setTo : Before → Text → Expr → Line
   -- `x = x - +5;`, `x = x - -5;` of a variable so many bits wide
-  lower raise : ℕ → Text → ℕ → Line
+  minus plus : ℕ → Text → ℕ → Line
   -- `x = s;`
   keep : Text → Text → Line
   -- `B x = s.subrange(0, n);`
@@ -185,8 +185,8 @@ lineText d (Line.check n c) t =
 lineText d (Line.set b x v) t = indent d (beforeText b (x ++ (text " = " ++ srcText v (text ";\n" ++ t))))
 lineText d (Line.setCast x type v) t = indent d (x ++ (text " = " ++ castText type v (text ";\n" ++ t)))
 lineText d (Line.setTo b x e) t = indent d (beforeText b (x ++ (text " = " ++ exprText e (text ";\n" ++ t))))
-lineText d (Line.lower w x n) t = indent d (x ++ (text " = " ++ (x ++ (text " - +" ++ (decimal n ++ (text ";\n" ++ t))))))
-lineText d (Line.raise w x n) t = indent d (x ++ (text " = " ++ (x ++ (text " - -" ++ (decimal n ++ (text ";\n" ++ t))))))
+lineText d (Line.minus w x n) t = indent d (x ++ (text " = " ++ (x ++ (text " - +" ++ (decimal n ++ (text ";\n" ++ t))))))
+lineText d (Line.plus w x n) t = indent d (x ++ (text " = " ++ (x ++ (text " - -" ++ (decimal n ++ (text ";\n" ++ t))))))
 lineText d (Line.keep x s) t = indent d (x ++ (text " = " ++ (s ++ (text ";\n" ++ t))))
 lineText d (Line.front b x s n) t =
     indent d (beforeText b (x ++ (text " = " ++ (s ++ (text ".subrange(0, " ++ exprText n (text ");\n" ++ t))))))

@@ -353,7 +353,7 @@ headAt s at =
     onEndian s at HeadRead.Wrong λ endianness p.
     onName (nameLine s p (text "target=")) HeadRead.Wrong λ target q.
     onArrays s q HeadRead.Wrong λ arrays r.
-    HeadRead.Is (record { endianness = endianness; target = target; arrays = arrays }) r
+    HeadRead.Is (record { options = record { endianness = endianness; arrays = arrays }; target = target }) r
 
 abbrev pub declIs : ℕ → Part → DeclDesc → ℕ → DeclRead
 declIs at id desc p = DeclRead.Is (record { key = at; id = id; desc = desc }) p

@@ -8,7 +8,8 @@ use lib.Dec.{ltb, eqb}
 use lib.ListN.{length}
 use Rattle.definitions.specs.Bytes.{Text, any}
 use Rattle.definitions.specs.Record.{Declaration}
-use Rattle.definitions.specs.Sizes.{Schema, Entry, Row, Annotated, sameName, parentId, EnumOf, enumIs, noEnum, descEnum, enumOf, isEnum, totalSize, totalOf}
+use Rattle.definitions.specs.Sizes.{Schema, Entry, Row, Annotated, sameName, parentId, descEnum, enumOf, isEnum, totalSize, totalOf, staticWidth}
+use Rattle.definitions.specs.declared.EnumOf.{EnumOf}
 use Rattle.definitions.specs.declared.Part.{Part}
 use Rattle.definitions.specs.declared.MaybePart.{MaybePart}
 use Rattle.definitions.specs.declared.MaybeNumber.{MaybeNumber}
@@ -164,17 +165,12 @@ largeSize (Size.Static bits) = tooLarge bits
 largeSize Size.Dynamic = false
 largeSize Size.Unknown = false
 
-abbrev pub staticBits : Size → ℕ
-staticBits (Size.Static bits) = bits
-staticBits Size.Dynamic = 0
-staticBits Size.Unknown = 0
-
 abbrev pub largeField : Annotated → Bool
 largeField a = largeSize (a .fieldSize) || badMaybe tooLarge (a .paddedSize)
 
 unfoldable pub staticSum : List Annotated → ℕ
 staticSum [] = 0
-staticSum (a ∷ xs) = staticBits (a .fieldSize) + staticSum xs
+staticSum (a ∷ xs) = staticWidth (a .fieldSize) + staticSum xs
 
 abbrev pub largeRow : Row → Bool
 largeRow r =
@@ -206,8 +202,8 @@ isOptional Cond.None = false
 isOptional (Cond.Some id value) = true
 
 abbrev pub raggedEnum : EnumOf → Bool
-raggedEnum (enumIs width isOpen isComplete) = notWhole width
-raggedEnum noEnum = false
+raggedEnum (EnumOf.Enum width isOpen isComplete) = notWhole width
+raggedEnum EnumOf.None = false
 
 abbrev pub raggedDesc : Text → List Row → Bool → FieldDesc → Bool
 raggedDesc s rows optional (FieldDesc.Checksum of) = false

@@ -7,6 +7,7 @@ use mathlib.Core.Option.{Option, none, some}
 use Prim.Native.Nat.{ℕ, _+_, _*_, _/_}
 use Rattle.definitions.specs.Bytes.{Text, text, pick, any, same, part}
 use Rattle.definitions.specs.Record.{Declaration}
+use Rattle.definitions.specs.declared.EnumOf.{EnumOf}
 use Rattle.definitions.specs.declared.Part.{Part}
 use Rattle.definitions.specs.declared.MaybePart.{MaybePart}
 use Rattle.definitions.specs.declared.MaybeNumber.{MaybeNumber}
@@ -39,6 +40,12 @@ abbrev pub mulSize : Size → ℕ → Size
 mulSize Size.Unknown n = Size.Unknown
 mulSize Size.Dynamic n = Size.Dynamic
 mulSize (Size.Static a) n = Size.Static (a * n)
+
+-- `static_`: the bits of a static size
+abbrev pub staticWidth : Size → ℕ
+staticWidth (Size.Static width) = width
+staticWidth Size.Dynamic = 0
+staticWidth Size.Unknown = 0
 
 -- ---- which field names which
 
@@ -324,23 +331,19 @@ arraySize s fs id MaybeNumber.None = firstCount s id fs
 
 -- ---- a type that is an enum: its width, and the marks open and complete
 
-pub data EnumOf : Type 0 where
-  enumIs : ℕ → Bool → Bool → EnumOf
-  noEnum : EnumOf
-
 abbrev pub descEnum : DeclDesc → EnumOf
-descEnum (DeclDesc.Checksum width) = noEnum
-descEnum (DeclDesc.CustomField width) = noEnum
-descEnum (DeclDesc.Enum width isOpen isComplete) = enumIs width isOpen isComplete
-descEnum (DeclDesc.Packet parent) = noEnum
-descEnum (DeclDesc.Struct parent) = noEnum
+descEnum (DeclDesc.Checksum width) = EnumOf.None
+descEnum (DeclDesc.CustomField width) = EnumOf.None
+descEnum (DeclDesc.Enum width isOpen isComplete) = EnumOf.Enum width isOpen isComplete
+descEnum (DeclDesc.Packet parent) = EnumOf.None
+descEnum (DeclDesc.Struct parent) = EnumOf.None
 
 abbrev pub enumOf : Text → List Row → Part → EnumOf
-enumOf s rows type = elim (lookup s rows type) [ some r ↦ descEnum (r .decl .desc) | none ↦ noEnum ]
+enumOf s rows type = elim (lookup s rows type) [ some r ↦ descEnum (r .decl .desc) | none ↦ EnumOf.None ]
 
 abbrev pub isEnum : EnumOf → Bool
-isEnum (enumIs width isOpen isComplete) = true
-isEnum noEnum = false
+isEnum (EnumOf.Enum width isOpen isComplete) = true
+isEnum EnumOf.None = false
 
 -- `is_bitfield`: a typedef only where its type is an enum
 abbrev pub isBitfield : Text → List Row → FieldDesc → Bool

@@ -38,10 +38,15 @@ pub enum Arrays {
     Full,
 }
 
-pub struct Head {
+// What the head chooses beside the target, handed on whole from the reader to the writer.
+pub struct Options {
     pub endianness: EndiannessValue,
-    pub target: Part,
     pub arrays: Arrays,
+}
+
+pub struct Head {
+    pub options: Options,
+    pub target: Part,
 }
 
 pub enum FieldDesc {
@@ -158,6 +163,16 @@ pub enum ArraySize {
     DynamicCount,
     DynamicSize,
     Unknown,
+}
+
+// What a type is: an enum of a width, with its marks, or anything else.
+pub enum EnumOf {
+    Enum {
+        width: u64,
+        open: bool,
+        complete: bool,
+    },
+    None,
 }
 
 // What a size, count or element size field names: its `field_id`, and a size field's width.

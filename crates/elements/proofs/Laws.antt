@@ -22,7 +22,8 @@ use Rattle.elements.specs.declared.Loop.{Loop}
 
 -- ---- arms
 
-pub by-source : (id behind : Text) (s d : Source) {l l₁ : Text} {i r : ℕ} → s ≡ d → Put l i (sourceOf id d ++ behind) r l₁ → Put l i (sourceOf id s ++ behind) r l₁
+pub by-source : (id behind : Text) (s d : Source) {l l₁ : Text} {i r : ℕ} → s ≡ d → Put l i (sourceOf id d ++ behind) r l₁
+    → Put l i (sourceOf id s ++ behind) r l₁
 by-source id behind s d e p = rw e p
 
 pub by-end : (before : Text) (p d : Place) {l l₁ : Text} {i r : ℕ} → p ≡ d → Put l i (before ++ placeEnd d) r l₁ → Put l i (before ++ placeEnd p) r l₁
@@ -101,12 +102,15 @@ module _ (id : Text) (p : Place) where
       unfolding placeStart
       closed-lines a b c d = follow (lines-leads 4 (rawValue type order w)) a (placed (λ t. type ++ (text "(raw_value)" ++ t)) b (chain c d))
 
-  module _ (type s : Text) {l l₁ l₂ l₃ : Text} {i r₁ r₂ r₃ : ℕ} (a : Put l i (linesText 4 (parseLines type s) []) r₁ l₁) (b : Put l₁ r₁ (placeStart id p []) r₂ l₂) where
-    pub parsed-lines : Put l₂ r₂ (text "out" ++ placeEnd p) r₃ l₃ → Put l i (linesText 4 (parseArrayElement s (Elem.parsed type) (placeOf id p) Out.out) []) r₃ l₃
+  module _ (type s : Text) {l l₁ l₂ l₃ : Text} {i r₁ r₂ r₃ : ℕ} (a : Put l i (linesText 4 (parseLines type s) []) r₁ l₁)
+      (b : Put l₁ r₁ (placeStart id p []) r₂ l₂) where
+    pub parsed-lines : Put l₂ r₂ (text "out" ++ placeEnd p) r₃ l₃
+        → Put l i (linesText 4 (parseArrayElement s (Elem.parsed type) (placeOf id p) Out.out) []) r₃ l₃
     unfolding placeStart
     parsed-lines c = follow (lines-leads 4 (parseLines type s)) a (placed (λ t. text "out" ++ t) b c)
 
-    pub moved-lines : Put l₂ r₂ (text "std::move(out)" ++ placeEnd p) r₃ l₃ → Put l i (linesText 4 (parseArrayElement s (Elem.parsed type) (placeOf id p) Out.moved) []) r₃ l₃
+    pub moved-lines : Put l₂ r₂ (text "std::move(out)" ++ placeEnd p) r₃ l₃
+        → Put l i (linesText 4 (parseArrayElement s (Elem.parsed type) (placeOf id p) Out.moved) []) r₃ l₃
     unfolding placeStart
     moved-lines c = follow (lines-leads 4 (parseLines type s)) a (placed (λ t. text "std::move(out)" ++ t) b c)
 

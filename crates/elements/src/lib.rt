@@ -70,7 +70,9 @@ fn put_source(out: &mut [u8], at: usize, id: &[u8], source: Source, behind: &[u8
 
 // `T out;`, `if (!T::Parse(s, &out)) {` ..
 fn put_parse(out: &mut [u8], at: usize, id: &[u8], type_id: &[u8], source: Source) -> usize
-    ensures { λ r. ⌜ Put (now (out .entry)) at (linesText 4 (parseLines (now («type_id» .entry)) (sourceOf (now (id .entry)) source)) []) r (now (out .exit)) ⌝ }
+    ensures { λ r. ⌜ Put (now (out .entry)) at
+        (linesText 4 (parseLines (now («type_id» .entry)) (sourceOf (now (id .entry)) source)) [])
+        r (now (out .exit)) ⌝ }
 {
     let p = text::put_name(out, at, b"    ", type_id, b" out;\n    if (!");
     let q = text::put_name(out, p, b"", type_id, b"::Parse(");
@@ -120,7 +122,9 @@ fn put_scalar(
     width: u64,
     place: Place,
 ) -> usize
-    ensures { λ r. ⌜ Put (now (out .entry)) at (linesText 4 (parseArrayElement wholeSpan (Elem.scalar endianness width) (placeOf (now (id .entry)) place) Out.out) []) r (now (out .exit)) ⌝ }
+    ensures { λ r. ⌜ Put (now (out .entry)) at
+        (linesText 4 (parseArrayElement wholeSpan (Elem.scalar endianness width) (placeOf (now (id .entry)) place) Out.out) [])
+        r (now (out .exit)) ⌝ }
 {
     let p = put_place(out, at, id, place);
     let q = expressions::put_read(out, p, b"", b"span", endianness, width, b"");
@@ -137,7 +141,9 @@ fn put_open_enum(
     width: u64,
     place: Place,
 ) -> usize
-    ensures { λ r. ⌜ Put (now (out .entry)) at (linesText 4 (parseArrayElement wholeSpan (Elem.openEnum (now («type_id» .entry)) endianness width) (placeOf (now (id .entry)) place) Out.out) []) r (now (out .exit)) ⌝ }
+    ensures { λ r. ⌜ Put (now (out .entry)) at
+        (linesText 4 (parseArrayElement wholeSpan (Elem.openEnum (now («type_id» .entry)) endianness width) (placeOf (now (id .entry)) place) Out.out) [])
+        r (now (out .exit)) ⌝ }
 {
     let p = put_place(out, at, id, place);
     let q = text::put(out, p, type_id);
@@ -183,7 +189,9 @@ fn put_closed_enum(
     width: u64,
     place: Place,
 ) -> usize
-    ensures { λ r. ⌜ Put (now (out .entry)) at (linesText 4 (parseArrayElement wholeSpan (Elem.closedEnum (now («type_id» .entry)) endianness width) (placeOf (now (id .entry)) place) Out.out) []) r (now (out .exit)) ⌝ }
+    ensures { λ r. ⌜ Put (now (out .entry)) at
+        (linesText 4 (parseArrayElement wholeSpan (Elem.closedEnum (now («type_id» .entry)) endianness width) (placeOf (now (id .entry)) place) Out.out) [])
+        r (now (out .exit)) ⌝ }
 {
     let p = put_raw_value(out, at, type_id, endianness, width);
     let q = put_place(out, p, id, place);
@@ -200,7 +208,10 @@ fn put_parsed(
     source: Source,
     place: Place,
 ) -> usize
-    ensures { λ r. ⌜ Put (now (out .entry)) at (linesText 4 (parseArrayElement (sourceOf (now (id .entry)) source) (Elem.parsed (now («type_id» .entry))) (placeOf (now (id .entry)) place) Out.out) []) r (now (out .exit)) ⌝ }
+    ensures { λ r. ⌜ Put (now (out .entry)) at
+        (linesText 4 (parseArrayElement (sourceOf (now (id .entry)) source)
+        (Elem.parsed (now («type_id» .entry))) (placeOf (now (id .entry)) place) Out.out) [])
+        r (now (out .exit)) ⌝ }
 {
     let p = put_parse(out, at, id, type_id, source);
     let q = put_place(out, p, id, place);
@@ -216,7 +227,10 @@ fn put_moved(
     source: Source,
     place: Place,
 ) -> usize
-    ensures { λ r. ⌜ Put (now (out .entry)) at (linesText 4 (parseArrayElement (sourceOf (now (id .entry)) source) (Elem.parsed (now («type_id» .entry))) (placeOf (now (id .entry)) place) Out.moved) []) r (now (out .exit)) ⌝ }
+    ensures { λ r. ⌜ Put (now (out .entry)) at
+        (linesText 4 (parseArrayElement (sourceOf (now (id .entry)) source)
+        (Elem.parsed (now («type_id» .entry))) (placeOf (now (id .entry)) place) Out.moved) [])
+        r (now (out .exit)) ⌝ }
 {
     let p = put_parse(out, at, id, type_id, source);
     let q = put_place(out, p, id, place);
@@ -232,7 +246,9 @@ fn parse_array_element(
     element: Element,
     place: Place,
 ) -> usize
-    ensures { λ r. ⌜ Put (now (out .entry)) at (linesText 4 (parseArrayElement wholeSpan (elementOf (now («type_id» .entry)) element) (placeOf (now (id .entry)) place) Out.out) []) r (now (out .exit)) ⌝ }
+    ensures { λ r. ⌜ Put (now (out .entry)) at
+        (linesText 4 (parseArrayElement wholeSpan (elementOf (now («type_id» .entry)) element) (placeOf (now (id .entry)) place) Out.out) [])
+        r (now (out .exit)) ⌝ }
 {
     match element {
         Element::Scalar { endianness, width } => put_scalar(out, at, id, endianness, width, place),
@@ -287,7 +303,9 @@ fn put_loop(out: &mut [u8], at: usize, arrays: Arrays, id: &[u8], head: Loop) ->
 
 // Lite: a loop of parsers, which store nothing.
 pub fn put_parsing(out: &mut [u8], at: usize, id: &[u8], type_id: &[u8], head: Loop) -> usize
-    ensures { λ r. ⌜ Put (now (out .entry)) at (stmtBytes (loopOf Arrays.Lite (now (id .entry)) head (parseLines (now («type_id» .entry)) wholeSpan))) r (now (out .exit)) ⌝ }
+    ensures { λ r. ⌜ Put (now (out .entry)) at
+        (stmtBytes (loopOf Arrays.Lite (now (id .entry)) head (parseLines (now («type_id» .entry)) wholeSpan)))
+        r (now (out .exit)) ⌝ }
 {
     let p = put_loop(out, at, Arrays::Lite, id, head);
     let q = put_parse(out, p, id, type_id, Source::Span);
@@ -304,7 +322,10 @@ pub fn put_elements(
     element: Element,
     place: Place,
 ) -> usize
-    ensures { λ r. ⌜ Put (now (out .entry)) at (stmtBytes (loopOf Arrays.Full (now (id .entry)) head (parseArrayElement wholeSpan (elementOf (now («type_id» .entry)) element) (placeOf (now (id .entry)) place) Out.out))) r (now (out .exit)) ⌝ }
+    ensures { λ r. ⌜ Put (now (out .entry)) at
+        (stmtBytes (loopOf Arrays.Full (now (id .entry)) head
+        (parseArrayElement wholeSpan (elementOf (now («type_id» .entry)) element) (placeOf (now (id .entry)) place) Out.out)))
+        r (now (out .exit)) ⌝ }
 {
     let p = put_loop(out, at, Arrays::Full, id, head);
     let q = parse_array_element(out, p, id, type_id, element, place);
@@ -321,7 +342,10 @@ pub fn put_moved_elements(
     source: Source,
     place: Place,
 ) -> usize
-    ensures { λ r. ⌜ Put (now (out .entry)) at (stmtBytes (loopOf Arrays.Full (now (id .entry)) head (parseArrayElement (sourceOf (now (id .entry)) source) (Elem.parsed (now («type_id» .entry))) (placeOf (now (id .entry)) place) Out.moved))) r (now (out .exit)) ⌝ }
+    ensures { λ r. ⌜ Put (now (out .entry)) at
+        (stmtBytes (loopOf Arrays.Full (now (id .entry)) head
+        (parseArrayElement (sourceOf (now (id .entry)) source) (Elem.parsed (now («type_id» .entry))) (placeOf (now (id .entry)) place) Out.moved)))
+        r (now (out .exit)) ⌝ }
 {
     let p = put_loop(out, at, Arrays::Full, id, head);
     let q = put_moved(out, p, id, type_id, source, place);
@@ -354,7 +378,9 @@ fn put_element_span(out: &mut [u8], at: usize, id: &[u8]) -> usize
 
 // Full: a loop over elements of Dynamic size, each in a part of the span.
 pub fn put_parts(out: &mut [u8], at: usize, id: &[u8], type_id: &[u8], head: Loop) -> usize
-    ensures { λ r. ⌜ Put (now (out .entry)) at (stmtBytes (loopOf Arrays.Full (now (id .entry)) head (inPart (now (id .entry)) (now («type_id» .entry))))) r (now (out .exit)) ⌝ }
+    ensures { λ r. ⌜ Put (now (out .entry)) at
+        (stmtBytes (loopOf Arrays.Full (now (id .entry)) head (inPart (now (id .entry)) (now («type_id» .entry)))))
+        r (now (out .exit)) ⌝ }
 {
     let p = put_loop(out, at, Arrays::Full, id, head);
     let q = put_element_span(out, p, id);

@@ -9,15 +9,14 @@ use Rattle.definitions.specs.Bytes.{any}
 use Rattle.definitions.specs.Sizes.{Annotated, annotateField, annotateFields, paddedBy}
 use Rattle.definitions.specs.Refusals.{tooLarge, largeField, staticSum}
 use Rattle.definitions.specs.FieldParser.{Setting}
-use Rattle.definitions.specs.declared.Arrays.{Arrays}
-use Rattle.definitions.specs.declared.EndiannessValue.{EndiannessValue}
 use Rattle.definitions.specs.declared.Field.{Field}
+use Rattle.definitions.specs.declared.Options.{Options}
 use Rattle.tables.specs.Tables.{fieldHere, fieldsFrom, Tables, rowsOf, fieldsOf}
 
 module _ (t : Tables) (i n : ℕ) where
   -- `scope` is the rows before it
-  abbrev pub settingAt : EndiannessValue → Arrays → Setting
-  settingAt order m = record { source = t .source; scope = rowsOf t i; endianness = order; arrays = m; fields = fieldsOf t i n }
+  abbrev pub settingAt : Options → Setting
+  settingAt o = record { source = t .source; scope = rowsOf t i; options = o; fields = fieldsOf t i n }
 
   -- from number k on, with their sizes
   abbrev pub restAt : ℕ → List Annotated

@@ -2,10 +2,10 @@
 -- Assumes nothing.
 use mathlib.Core.List.{_++_, append-assoc}
 use mathlib.Core.Path.{_≡_, sym}
-use Prim.Native.Nat.{ℕ, _/_, _≤_, _<_}
+use Prim.Native.Nat.{ℕ, _/_, _<_}
 use native.Mathlib.Decide.{decLt}
 use native.Mathlib.Omega.{arith}
-use borrow.Author.Tests.{le-ltb, lt-leb}
+use borrow.Author.Tests.{lt-leb}
 use Rattle.definitions.specs.Bytes.{Text, text, decimal}
 use Rattle.definitions.specs.Lines.{exprText, srcText}
 use Rattle.definitions.specs.Blocks.{named, readOf, getCxxScalarType}
@@ -15,7 +15,7 @@ use Rattle.text.specs.Put.{Put}
 use Rattle.text.specs.Widths.{scalarTypeOf}
 use Rattle.text.specs.declared.ScalarType.{ScalarType}
 use Rattle.text.proofs.Puts.{chain, like}
-use Rattle.text.proofs.Widths.{too-wide}
+use Rattle.text.proofs.Widths.{fits, too-wide}
 use Rattle.stream.proofs.Texts.{Leads, piece, _▸_, expr-leads}
 use Rattle.expressions.specs.Amounts.{termOf, amountOf, sizedRead}
 use Rattle.expressions.specs.declared.Term.{Term}
@@ -31,7 +31,8 @@ module _ (m : Arrays) (id before behind : Text) {l l₁ : Text} {i r : ℕ} wher
   by-term a d e p = rw e p
 
   -- an arm of an amount
-  pub by-amount : (a d : Amount) → a ≡ d → Put l i (before ++ exprText (amountOf m id d) behind) r l₁ → Put l i (before ++ exprText (amountOf m id a) behind) r l₁
+  pub by-amount : (a d : Amount) → a ≡ d → Put l i (before ++ exprText (amountOf m id d) behind) r l₁
+      → Put l i (before ++ exprText (amountOf m id a) behind) r l₁
   by-amount a d e p = rw e p
 
   -- an operation
@@ -44,20 +45,16 @@ module _ (m : Arrays) (id before behind : Text) {l l₁ : Text} {i r : ℕ} wher
 
 -- the backing type's bits
 module _ (w : ℕ) where
-  fits : w ≤ 64 → scalarTypeOf w ≡ ScalarType.Bits (getCxxScalarType w)
-  unfolding scalarTypeOf
-  fits h = rw (le-ltb 64 w h, scalarTypeOf)
-
   pub bits-known : (b : ℕ) {x : ScalarType} → x ≡ scalarTypeOf w → x ≡ ScalarType.Bits b → b ≡ getCxxScalarType w
   bits-known b d e = elim (decLt 64 w) [
     | yes h ↦ let z : _≡_ {A = ℕ} 0 1 = cc (too-wide w h) in omega arith
-    | no h ↦ cc (fits (omega arith))
+    | no h ↦ cc (fits w (omega arith))
   ]
 
   pub bits-most : {x : ScalarType} → x ≡ scalarTypeOf w → x ≡ ScalarType.TooWide → 64 ≡ getCxxScalarType w
   bits-most d e = elim (decLt 64 w) [
     | yes h ↦ rw (lt-leb w 8 (omega arith), lt-leb w 16 (omega arith), lt-leb w 32 (omega arith))
-    | no h ↦ let z : _≡_ {A = ℕ} 0 1 = cc (fits (omega arith)) in omega arith
+    | no h ↦ let z : _≡_ {A = ℕ} 0 1 = cc (fits w (omega arith)) in omega arith
   ]
 
 pub sized-read : (before behind : Text) (w : ℕ) {b : ℕ} {l l₁ l₂ l₃ : Text} {i r₁ r₂ r₃ : ℕ} → b ≡ getCxxScalarType w

@@ -54,7 +54,9 @@ pub fn put_named(
     end: &[u8],
     behind: &[u8],
 ) -> usize
-    ensures { λ r. ⌜ Put (now (out .entry)) at (now (before .entry) ++ (named arrays (now (id .entry)) (now (end .entry)) ++ now (behind .entry))) r (now (out .exit)) ⌝ }
+    ensures { λ r. ⌜ Put (now (out .entry)) at
+        (now (before .entry) ++ (named arrays (now (id .entry)) (now (end .entry)) ++ now (behind .entry)))
+        r (now (out .exit)) ⌝ }
 {
     let p = text::put(out, at, before);
     let q = put_target(out, p, arrays, id, end);
@@ -71,7 +73,9 @@ fn put_term(
     term: Term,
     behind: &[u8],
 ) -> usize
-    ensures { λ r. ⌜ Put (now (out .entry)) at (now (before .entry) ++ exprText (termOf arrays (now (id .entry)) term) (now (behind .entry))) r (now (out .exit)) ⌝ }
+    ensures { λ r. ⌜ Put (now (out .entry)) at
+        (now (before .entry) ++ exprText (termOf arrays (now (id .entry)) term) (now (behind .entry)))
+        r (now (out .exit)) ⌝ }
 {
     match term {
         Term::Literal(n) => text::put_number(out, at, before, n, behind),
@@ -81,24 +85,6 @@ fn put_term(
         Term::ElementSize => put_named(out, at, before, arrays, id, b"_element_size_", behind),
         Term::OwnCount => put_named(out, at, before, Arrays::Lite, id, b"_count_", behind),
     }
-}
-
-// Two terms with an operator between them, between two pieces.
-fn put_operation(
-    out: &mut [u8],
-    at: usize,
-    before: &[u8],
-    arrays: Arrays,
-    id: &[u8],
-    left: Term,
-    operator: &[u8],
-    right: Term,
-    behind: &[u8],
-) -> usize
-    ensures { λ r. ⌜ Put (now (out .entry)) at (now (before .entry) ++ exprText (termOf arrays (now (id .entry)) left) (now (operator .entry) ++ exprText (termOf arrays (now (id .entry)) right) (now (behind .entry)))) r (now (out .exit)) ⌝ }
-{
-    let p = put_term(out, at, before, arrays, id, left, operator);
-    put_term(out, p, b"", arrays, id, right, behind)
 }
 
 // An amount between two pieces.
@@ -111,43 +97,24 @@ pub fn put_amount(
     amount: Amount,
     behind: &[u8],
 ) -> usize
-    ensures { λ r. ⌜ Put (now (out .entry)) at (now (before .entry) ++ exprText (amountOf arrays (now (id .entry)) amount) (now (behind .entry))) r (now (out .exit)) ⌝ }
+    ensures { λ r. ⌜ Put (now (out .entry)) at
+        (now (before .entry) ++ exprText (amountOf arrays (now (id .entry)) amount) (now (behind .entry)))
+        r (now (out .exit)) ⌝ }
 {
     match amount {
         Amount::Of(term) => put_term(out, at, before, arrays, id, term, behind),
-        Amount::Product(left, right) => put_operation(
-            out,
-            at,
-            before,
-            arrays,
-            id,
-            left,
-            b" * ",
-            right,
-            behind,
-        ),
-        Amount::Quotient(left, right) => put_operation(
-            out,
-            at,
-            before,
-            arrays,
-            id,
-            left,
-            b" / ",
-            right,
-            behind,
-        ),
-        Amount::Remainder(left, right) => put_operation(
-            out,
-            at,
-            before,
-            arrays,
-            id,
-            left,
-            b" % ",
-            right,
-            behind,
-        ),
+        Amount::Product(left, right) => {
+            let p = put_term(out, at, before, arrays, id, left, b" * ");
+            put_term(out, p, b"", arrays, id, right, behind)
+        }
+        Amount::Quotient(left, right) => {
+            let p = put_term(out, at, before, arrays, id, left, b" / ");
+            put_term(out, p, b"", arrays, id, right, behind)
+        }
+        Amount::Remainder(left, right) => {
+            let p = put_term(out, at, before, arrays, id, left, b" % ");
+            put_term(out, p, b"", arrays, id, right, behind)
+        }
     }
 }
 
@@ -196,7 +163,9 @@ pub fn put_read(
     width: u64,
     behind: &[u8],
 ) -> usize
-    ensures { λ r. ⌜ Put (now (out .entry)) at (now (before .entry) ++ srcText (readOf (now (span .entry)) endianness width) (now (behind .entry))) r (now (out .exit)) ⌝ }
+    ensures { λ r. ⌜ Put (now (out .entry)) at
+        (now (before .entry) ++ srcText (readOf (now (span .entry)) endianness width) (now (behind .entry)))
+        r (now (out .exit)) ⌝ }
 {
     let p = text::put(out, at, before);
     let q = text::put(out, p, span);

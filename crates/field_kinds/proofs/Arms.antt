@@ -6,12 +6,11 @@ use mathlib.Core.List.{List}
 use mathlib.Core.Path.{_≡_, sym, ap, _∙_}
 use Rattle.definitions.specs.Bytes.{Text, pick}
 use Rattle.definitions.specs.Sizes.{Row, enumOf}
+use Rattle.definitions.specs.declared.EnumOf.{EnumOf}
 use Rattle.definitions.specs.declared.FieldDesc.{FieldDesc}
 use Rattle.definitions.specs.declared.Part.{Part}
 use Rattle.names.specs.Written.{fieldName}
 use Rattle.names.specs.declared.WrittenName.{WrittenName}
-use Rattle.rows.specs.Enums.{enumType}
-use Rattle.rows.specs.declared.EnumType.{EnumType}
 use Rattle.bit_fields.specs.declared.KindAt.{KindAt}
 use Rattle.bit_fields.specs.declared.End.{End}
 use Rattle.conditions.specs.IfNames.{isCondIn}
@@ -26,12 +25,12 @@ module _ (s : Text) (names : List Part) (id : Part) {b : Bool} (e : b ≡ isCond
   unfolding scalarKind
   scalar-member h = ap (λ (b : Bool). pick b (KindAt.Condition id) (memberKind id)) (sym h ∙ e)
 
-module _ (id type : Part) {e : EnumType} where
-  pub no-enum : e ≡ EnumType.None → memberKind id ≡ enumKind id type e
+module _ (id type : Part) {e : EnumOf} where
+  pub no-enum : e ≡ EnumOf.None → memberKind id ≡ enumKind id type e
   unfolding enumKind
   no-enum h = ap (enumKind id type) (sym h)
 
-  module _ {width : _} {isOpen isComplete : Bool} (h : e ≡ EnumType.Enum width isOpen isComplete) where
+  module _ {width : _} {isOpen isComplete : Bool} (h : e ≡ EnumOf.Enum width isOpen isComplete) where
     picked : pick (isOpen || isComplete) (KindAt.OpenEnum id type) (KindAt.ClosedEnum id type) ≡ enumKind id type e
     unfolding enumKind
     picked = ap (enumKind id type) (sym h)
@@ -67,7 +66,7 @@ module _ (s : Text) (rows : List Row) (names : List Part) {d : FieldDesc} where
   unfolding kindAt
   kind-scalar e h = kind-as e h
 
-  pub kind-typedef : {id type : Part} → d ≡ FieldDesc.Typedef id type → {e : EnumType} → e ≡ enumType (enumOf s rows type)
+  pub kind-typedef : {id type : Part} → d ≡ FieldDesc.Typedef id type → {e : EnumOf} → e ≡ (enumOf s rows type)
       → {r : KindAt} → r ≡ enumKind id type e → r ≡ kindAt s rows names d
   unfolding kindAt
   kind-typedef {id} {type} e h k = kind-as e (k ∙ ap (enumKind id type) h)

@@ -5,12 +5,11 @@ use mathlib.Core.Bool.{_||_}
 use mathlib.Core.List.{List}
 use Rattle.definitions.specs.Bytes.{Text, pick}
 use Rattle.definitions.specs.Sizes.{Row, enumOf}
+use Rattle.definitions.specs.declared.EnumOf.{EnumOf}
 use Rattle.definitions.specs.declared.Part.{Part}
 use Rattle.definitions.specs.declared.FieldDesc.{FieldDesc}
 use Rattle.names.specs.Written.{fieldName}
 use Rattle.names.specs.declared.WrittenName.{WrittenName}
-use Rattle.rows.specs.Enums.{enumType}
-use Rattle.rows.specs.declared.EnumType.{EnumType}
 use Rattle.bit_fields.specs.declared.KindAt.{KindAt}
 use Rattle.bit_fields.specs.declared.End.{End}
 use Rattle.conditions.specs.IfNames.{isCondIn}
@@ -22,9 +21,9 @@ memberKind id = KindAt.Number (WrittenName.Part id) End.Member
 unfoldable pub scalarKind : Text → List Part → Part → KindAt
 scalarKind s names id = pick (isCondIn s names id) (KindAt.Condition id) (memberKind id)
 
-unfoldable pub enumKind : Part → Part → EnumType → KindAt
-enumKind id type (EnumType.Enum width isOpen isComplete) = pick (isOpen || isComplete) (KindAt.OpenEnum id type) (KindAt.ClosedEnum id type)
-enumKind id type EnumType.None = memberKind id
+unfoldable pub enumKind : Part → Part → EnumOf → KindAt
+enumKind id type (EnumOf.Enum width isOpen isComplete) = pick (isOpen || isComplete) (KindAt.OpenEnum id type) (KindAt.ClosedEnum id type)
+enumKind id type EnumOf.None = memberKind id
 
 unfoldable pub kindAt : Text → List Row → List Part → FieldDesc → KindAt
 kindAt s rows names (FieldDesc.Checksum of) = KindAt.Reserved
@@ -40,4 +39,4 @@ kindAt s rows names (FieldDesc.Reserved width) = KindAt.Reserved
 kindAt s rows names (FieldDesc.Array id width type modifier size) = KindAt.Reserved
 kindAt s rows names (FieldDesc.Scalar id width) = scalarKind s names id
 kindAt s rows names (FieldDesc.Flag id) = KindAt.Condition id
-kindAt s rows names (FieldDesc.Typedef id type) = enumKind id type (enumType (enumOf s rows type))
+kindAt s rows names (FieldDesc.Typedef id type) = enumKind id type (enumOf s rows type)

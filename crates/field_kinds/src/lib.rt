@@ -1,21 +1,21 @@
 // What the bits of a bit field are put into, or held against: the arms of the `match` in `parse_bit_field` of cxx.rs. The `if` names of the target's
-// fields are the m of two tables (crate conditions); types are looked up among the i declarations before it.
+// fields are those of a table (crate conditions); types are looked up among the i declarations before it.
 
 use bit_fields::End;
 use bit_fields::KindAt;
+use definitions::EnumOf;
 use definitions::FieldDesc;
 use definitions::Part;
 use names::WrittenName;
-use rows::EnumType;
 ghost use mathlib.Core.Path.{_≡_};
 ghost use Rattle.tables.specs.Tables.{rowsFrom};
-ghost use Rattle.conditions.specs.IfNames.{namesFrom};
+ghost use Rattle.conditions.specs.IfNames.{namesIn};
 ghost use Rattle.field_kinds.specs.KindOf.{enumKind, scalarKind, kindAt};
 
-fn scalar_kind(rec: &[u8], starts: &[usize], ends: &[usize], m: usize, id: Part) -> KindAt
-    ensures { λ r. ⌜ r ≡ scalarKind (now (rec .entry)) (namesFrom (now (starts .entry)) (now (ends .entry)) 0 m) id ⌝ }
+fn scalar_kind(rec: &[u8], conds: &[usize], id: Part) -> KindAt
+    ensures { λ r. ⌜ r ≡ scalarKind (now (rec .entry)) (namesIn (now (conds .entry))) id ⌝ }
 {
-    if conditions::is_cond_for(rec, starts, ends, m, id) {
+    if conditions::is_cond_for(rec, conds, id) {
         return KindAt::Condition { id };
     }
     KindAt::Number {
@@ -25,11 +25,11 @@ fn scalar_kind(rec: &[u8], starts: &[usize], ends: &[usize], m: usize, id: Part)
 }
 
 // A closed enum is tested by `IsValid`; `complete` spares the test here.
-fn enum_kind(id: Part, type_id: Part, e: EnumType) -> KindAt
+fn enum_kind(id: Part, type_id: Part, e: EnumOf) -> KindAt
     ensures { λ r. ⌜ r ≡ enumKind id «type_id» e ⌝ }
 {
     match e {
-        EnumType::Enum {
+        EnumOf::Enum {
             width: _,
             open,
             complete,
@@ -42,24 +42,15 @@ fn enum_kind(id: Part, type_id: Part, e: EnumType) -> KindAt
             }
             KindAt::ClosedEnum { id, type_id }
         }
-        EnumType::None => KindAt::Number {
+        EnumOf::None => KindAt::Number {
             name: WrittenName::Part(id),
             end: End::Member,
         },
     }
 }
 
-pub fn kind_of(
-    rec: &[u8],
-    rows: &[u64],
-    starts: &[usize],
-    ends: &[usize],
-    m: usize,
-    i: usize,
-    desc: FieldDesc,
-) -> KindAt
-    ensures { λ r.
-        ⌜ r ≡ kindAt (now (rec .entry)) (rowsFrom (now (rows .entry)) 0 i) (namesFrom (now (starts .entry)) (now (ends .entry)) 0 m) desc ⌝ }
+pub fn kind_of(rec: &[u8], rows: &[u64], conds: &[usize], i: usize, desc: FieldDesc) -> KindAt
+    ensures { λ r. ⌜ r ≡ kindAt (now (rec .entry)) (rowsFrom (now (rows .entry)) 0 i) (namesIn (now (conds .entry))) desc ⌝ }
 {
     match desc {
         FieldDesc::Checksum { field_id: _ } => KindAt::Reserved,
@@ -88,7 +79,7 @@ pub fn kind_of(
             size_modifier: _,
             size: _,
         } => KindAt::Reserved,
-        FieldDesc::Scalar { id, width: _ } => scalar_kind(rec, starts, ends, m, id),
+        FieldDesc::Scalar { id, width: _ } => scalar_kind(rec, conds, id),
         FieldDesc::Flag { id } => KindAt::Condition { id },
         FieldDesc::Typedef { id, type_id } => enum_kind(
             id,

@@ -37,7 +37,8 @@ any-bits-padded p Modifier.None w a = refl
 any-bits-padded p (Modifier.Plus n) w a = refl
 any-bits-padded p (Modifier.Minus n) w a = refl
 
-module _ (s : Text) (m : Arrays) (padding : MaybeNumber) (id : Part) (type : MaybePart) (element : Element) (k : Modifier) (e : ElementSize) (n : ArraySize) (w : ℕ) {x y l l₁ : Text} {i r : ℕ} where
+module _ (s : Text) (m : Arrays) (padding : MaybeNumber) (id : Part) (type : MaybePart) (element : Element) (k : Modifier) (e : ElementSize) (n : ArraySize)
+    (w : ℕ) {x y l l₁ : Text} {i r : ℕ} where
   pub not-padded : padding ≡ MaybeNumber.None → x ≡ part s id → y ≡ typeText s type → Put l i (arrayText m x y element k e n) r l₁
       → Put l i (blockText (arrayBlock s m w padding id type element k e n)) r l₁
   not-padded h a b p = rw (h, sym a, sym b) (like (any-bits k w m x y element e n) p)
@@ -47,7 +48,8 @@ module _ (s : Text) (m : Arrays) (padding : MaybeNumber) (id : Part) (type : May
       → Put l i (blockText (arrayBlock s m w padding id type element k e n)) r l₁
   padded bytes h a b p = rw (h, sym a, sym b) (like (any-bits-padded bytes k w (arrayOf m x y element e n)) p)
 
-pub array-fits : (b : BlockAt) (padding : MaybeNumber) (id : Part) (type : MaybePart) (element : Element) (k : Modifier) (e : ElementSize) (n : ArraySize) → BlockFits b
+pub array-fits : (b : BlockAt) (padding : MaybeNumber) (id : Part) (type : MaybePart) (element : Element) (k : Modifier) (e : ElementSize) (n : ArraySize)
+    → BlockFits b
     → b ≡ BlockAt.Array padding id type element k e n
     → ProductFits e n
 array-fits b padding id type element k e n h d = rw d at h
@@ -101,7 +103,8 @@ module _ (s word : Text) (order : EndiannessValue) (m : Arrays) (bits : Part →
   optional-nested-at c id type v hc hi ht e p = rw (e, blockOf, sym hc, sym hi, sym ht) p
 
   module _ (id type : Part) {y z : Text} (hi : y ≡ part s id) (ht : z ≡ part s type) where
-    pub nested-at : b ≡ BlockAt.Nested id type → Put l i (blockText (Block.nested z (named m y (text "_")))) r l₁ → Put l i (blockText (blockOf s word order m bits b)) r l₁
+    pub nested-at : b ≡ BlockAt.Nested id type → Put l i (blockText (Block.nested z (named m y (text "_")))) r l₁
+        → Put l i (blockText (blockOf s word order m bits b)) r l₁
     unfolding blockOf
     nested-at e p = rw (e, blockOf, sym hi, sym ht) p
 

@@ -1,18 +1,16 @@
 // The bytes of the block that a field which is no bit field appends: `BlockAt` of emits, with its names as parts of the record. Document 01,
 // 'Lowering': the arms of `parse` of cxx.rs for such fields, and those of `parse_optional_field`.
-use definitions::ArraySize;
+use arrays::ArrayShape;
 use definitions::Arrays;
-use definitions::ElementSize;
-use definitions::EndiannessValue;
 use definitions::MaybeNumber;
 use definitions::MaybePart;
-use definitions::Modifier;
+use definitions::Options;
 use definitions::Part;
-use elements::Element;
 use emits::BlockAt;
 use names::WrittenName;
 ghost use mathlib.Core.Path.{_≡_};
 ghost use Prim.Native.Nat.{ℕ};
+ghost use Rattle.definitions.specs.Bytes.{Text};
 ghost use Rattle.definitions.specs.declared.Part.{Part};
 ghost use Rattle.text.specs.Put.{Put};
 ghost use Rattle.stream.specs.Stream.{blockText};
@@ -38,40 +36,21 @@ fn put_array(
     padding: MaybeNumber,
     id: Part,
     type_id: MaybePart,
-    element: Element,
-    modifier: Modifier,
-    element_size: ElementSize,
-    array_size: ArraySize,
+    shape: ArrayShape,
 ) -> usize
-    requires { ⌜ ProductFits «element_size» «array_size» ⌝ }
-    ensures { λ r. ⌜ ((w : ℕ) → Put (now (out .entry)) at (blockText (arrayBlock (now (rec .entry)) arrays w padding id «type_id» element modifier «element_size» «array_size»)) r (now (out .exit))) ⌝ }
+    requires { ⌜ ProductFits (shape .«element_size») (shape .«array_size») ⌝ }
+    ensures { λ r. ⌜ ((w : ℕ) → Put (now (out .entry)) at
+        (blockText (arrayBlock (now (rec .entry)) arrays w padding id «type_id»
+        (shape .element) (shape .modifier) (shape .«element_size») (shape .«array_size»)))
+        r (now (out .exit))) ⌝ }
 {
     let name = names::part(rec, id);
     let ty = type_name(rec, type_id);
     match padding {
-        MaybeNumber::None => arrays::put_array(
-            out,
-            at,
-            arrays,
-            name,
-            ty,
-            element,
-            modifier,
-            element_size,
-            array_size,
-        ),
-        MaybeNumber::Some(bytes) => padding_lines::put_padded_array(
-            out,
-            at,
-            bytes,
-            arrays,
-            name,
-            ty,
-            element,
-            modifier,
-            element_size,
-            array_size,
-        ),
+        MaybeNumber::None => arrays::put_array(out, at, arrays, name, ty, shape),
+        MaybeNumber::Some(bytes) => {
+            padding_lines::put_padded_array(out, at, bytes, arrays, name, ty, shape)
+        }
     }
 }
 
@@ -81,13 +60,14 @@ pub fn put_block<'a>(
     word: &'a [u8],
     out: &mut [u8],
     at: usize,
-    endianness: EndiannessValue,
-    arrays: Arrays,
+    options: Options,
     block: BlockAt,
 ) -> usize
     requires { ⌜ BlockFits block ⌝ }
-    ensures { λ r. ⌜ ((bits : Part → ℕ) → Put (now (out .entry)) at (blockText (blockOf (now (rec .entry)) (now (word .entry)) endianness arrays bits block)) r (now (out .exit))) ⌝ }
+    ensures { λ r. let s : Text = now (rec .entry) in let w : Text = now (word .entry) in
+        ⌜ ((bits : Part → ℕ) → Put (now (out .entry)) at (blockText (blockOf s w (options .endianness) (options .arrays) bits block)) r (now (out .exit))) ⌝ }
 {
+    let arrays = options.arrays;
     match block {
         BlockAt::SizedPayload(modifier) => {
             let x = names::name(rec, word, WrittenName::Payload);
@@ -109,19 +89,15 @@ pub fn put_block<'a>(
             modifier,
             element_size,
             array_size,
-        } => put_array(
-            rec,
-            out,
-            at,
-            arrays,
-            padding,
-            id,
-            type_id,
-            element,
-            modifier,
-            element_size,
-            array_size,
-        ),
+        } => {
+            let shape = ArrayShape {
+                element,
+                modifier,
+                element_size,
+                array_size,
+            };
+            put_array(rec, out, at, arrays, padding, id, type_id, shape)
+        }
         BlockAt::OptionalScalar {
             cond,
             value,
@@ -130,7 +106,7 @@ pub fn put_block<'a>(
         } => {
             let c = names::part(rec, cond);
             let x = names::part(rec, id);
-            optional_lines::put_optional_scalar(out, at, c, value, endianness, width, arrays, x)
+            optional_lines::put_optional_scalar(out, at, c, value, width, options, x)
         }
         BlockAt::OptionalOpen {
             cond,
@@ -142,7 +118,7 @@ pub fn put_block<'a>(
             let c = names::part(rec, cond);
             let x = names::part(rec, id);
             let ty = names::part(rec, type_id);
-            optional_lines::put_optional_open(out, at, c, value, endianness, width, arrays, x, ty)
+            optional_lines::put_optional_open(out, at, c, value, width, options, x, ty)
         }
         BlockAt::OptionalClosed {
             cond,
@@ -154,7 +130,7 @@ pub fn put_block<'a>(
             let c = names::part(rec, cond);
             let x = names::part(rec, id);
             let ty = names::part(rec, type_id);
-            optional_lines::put_optional_closed(out, at, c, value, endianness, width, arrays, x, ty)
+            optional_lines::put_optional_closed(out, at, c, value, width, options, x, ty)
         }
         BlockAt::OptionalNested {
             cond,

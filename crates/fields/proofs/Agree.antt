@@ -1,36 +1,36 @@
--- What a field comes to with its names as parts of the record is what it comes to by the definitions.
+-- What a field comes to with its names as parts of the record is what it comes to by the definitions on an octet boundary.
 -- Assumes nothing.
 use Prim.Native.Nat.{ℕ}
 use mathlib.Core.Bool.{true, false}
 use mathlib.Core.List.{List}
 use mathlib.Core.Path.{_≡_, refl}
 use Rattle.definitions.specs.Bytes.{text}
-use Rattle.definitions.specs.Sizes.{Annotated, EnumOf, enumIs, noEnum, enumOf}
-use Rattle.definitions.specs.FieldParser.{Setting, Emit, appends, getTrailingSize, sizeBacking, optionalTypedef, parseOptionalField, parseOther, parseUnchecked}
+use Rattle.definitions.specs.Sizes.{Annotated, enumOf}
+use Rattle.definitions.specs.FieldParser.{Setting, Emit, appends, sizeBacking, optionalTypedef, parseOptionalField, parseOther, parseUnchecked}
+use Rattle.definitions.specs.declared.EnumOf.{EnumOf}
 use Rattle.definitions.specs.declared.Cond.{Cond}
 use Rattle.definitions.specs.declared.FieldDesc.{FieldDesc}
 use Rattle.definitions.specs.declared.Modifier.{Modifier}
 use Rattle.definitions.specs.declared.Part.{Part}
-use Rattle.rows.specs.Enums.{enumType}
 use Rattle.emits.specs.BlockOf.{blockOf, emitOf}
 use Rattle.emits.specs.declared.EmitAt.{EmitAt}
 use Rattle.trailing.proofs.Agree.{typedefs-agree, payloads-agree}
 use Rattle.array_fields.proofs.Agree.{arrays-agree}
-use Rattle.fields.specs.Values.{optionalType, optionalAt, otherAt, uncheckedAt}
+use Rattle.fields.specs.Values.{optionalType, optionalAt, otherOf, otherAt, uncheckedAt}
 
 module _ (c : Setting) where
   -- the definitions' `Emit` that a value stands for
   abbrev emit : EmitAt → Emit
-  emit e = emitOf (c .source) (text "payload") (c .endianness) (c .arrays) (λ id. sizeBacking (c .source) id (c .fields)) e
+  emit e = emitOf (c .source) (text "payload") (c .options .endianness) (c .options .arrays) (λ id. sizeBacking (c .source) id (c .fields)) e
 
   -- ---- an optional field
 
   optional-typed : (cond : Part) (value : ℕ) (id type : Part) (e : EnumOf)
-      → emit (optionalType cond value id type (enumType e)) ≡ appends (optionalTypedef c cond value id type e)
+      → emit (optionalType cond value id type e) ≡ appends (optionalTypedef c cond value id type e)
   unfolding blockOf
-  optional-typed cond value id type (enumIs width true isComplete) = refl
-  optional-typed cond value id type (enumIs width false isComplete) = refl
-  optional-typed cond value id type noEnum = refl
+  optional-typed cond value id type (EnumOf.Enum width true isComplete) = refl
+  optional-typed cond value id type (EnumOf.Enum width false isComplete) = refl
+  optional-typed cond value id type EnumOf.None = refl
 
   pub optionals-agree : (cond : Part) (value : ℕ) (d : FieldDesc) → emit (optionalAt (c .source) (c .scope) cond value d) ≡ parseOptionalField c cond value d
   unfolding optionalAt parseOptionalField blockOf
@@ -49,46 +49,41 @@ module _ (c : Setting) where
   optionals-agree cond value (FieldDesc.Flag id) = refl
   optionals-agree cond value (FieldDesc.Typedef id type) = optional-typed cond value id type (enumOf (c .source) (c .scope) type)
 
-  -- ---- a field without a condition
+  module _ (a : Annotated) (later : List Annotated) where
+    -- ---- a field without a condition
 
-  pub others-agree : (shift : ℕ) (a : Annotated) (later : List Annotated) (d : FieldDesc)
-      → emit (otherAt (c .source) (c .scope) (c .fields) (c .endianness) shift (a .fieldSize) (a .paddedSize) (getTrailingSize later) d)
-      ≡ parseOther c shift a later d
-  unfolding otherAt parseOther
-  others-agree shift a later (FieldDesc.Checksum of) = refl
-  others-agree shift a later (FieldDesc.Padding size) = refl
-  others-agree shift a later (FieldDesc.Size of width) = refl
-  others-agree shift a later (FieldDesc.Count of width) = refl
-  others-agree shift a later (FieldDesc.ElementSize of width) = refl
-  others-agree shift a later FieldDesc.Body = payloads-agree c shift Modifier.None later
-  others-agree shift a later (FieldDesc.Payload modifier) = payloads-agree c shift modifier later
-  others-agree shift a later (FieldDesc.FixedScalar width value) = refl
-  others-agree shift a later (FieldDesc.FixedEnum type tag) = refl
-  others-agree shift a later (FieldDesc.Reserved width) = refl
-  others-agree shift a later (FieldDesc.Array id width type modifier size) = arrays-agree c (text "payload") (a .paddedSize) id width type modifier size
-  others-agree shift a later (FieldDesc.Scalar id width) = refl
-  others-agree shift a later (FieldDesc.Flag id) = refl
-  others-agree shift a later (FieldDesc.Typedef id type) = typedefs-agree c shift a id type later
+    abbrev value : FieldDesc → EmitAt
+    value d = otherAt (c .source) (c .scope) (c .fields) a later (otherOf (c .options .endianness) d)
 
-  -- ---- a field that is no bit field
+    pub others-agree : (d : FieldDesc) → emit (value d) ≡ parseOther c 0 a later d
+    unfolding otherAt otherOf parseOther
+    others-agree (FieldDesc.Checksum of) = refl
+    others-agree (FieldDesc.Padding size) = refl
+    others-agree (FieldDesc.Size of width) = refl
+    others-agree (FieldDesc.Count of width) = refl
+    others-agree (FieldDesc.ElementSize of width) = refl
+    others-agree FieldDesc.Body = payloads-agree c Modifier.None later
+    others-agree (FieldDesc.Payload modifier) = payloads-agree c modifier later
+    others-agree (FieldDesc.FixedScalar width value) = refl
+    others-agree (FieldDesc.FixedEnum type tag) = refl
+    others-agree (FieldDesc.Reserved width) = refl
+    others-agree (FieldDesc.Array id width type modifier size) = arrays-agree c (text "payload") id width modifier size (a .paddedSize) type
+    others-agree (FieldDesc.Scalar id width) = refl
+    others-agree (FieldDesc.Flag id) = refl
+    others-agree (FieldDesc.Typedef id type) = typedefs-agree c a id type later
 
-  module _ (shift : ℕ) (a : Annotated) (later : List Annotated) where
+    -- ---- a field that is no bit field
+
     abbrev valueBy : Cond → EmitAt
-    valueBy cond = elim cond [
-      | Cond.None ↦ otherAt (c .source) (c .scope) (c .fields) (c .endianness) shift (a .fieldSize) (a .paddedSize) (getTrailingSize later) (a .field .desc)
-      | Cond.Some id value ↦ optionalAt (c .source) (c .scope) id value (a .field .desc)
-    ]
+    valueBy cond = elim cond [ Cond.None ↦ value (a .field .desc) | Cond.Some id is ↦ optionalAt (c .source) (c .scope) id is (a .field .desc) ]
 
     abbrev emitBy : Cond → Emit
-    emitBy cond = elim cond [
-      | Cond.None ↦ parseOther c shift a later (a .field .desc)
-      | Cond.Some id value ↦ parseOptionalField c id value (a .field .desc)
-    ]
+    emitBy cond = elim cond [ Cond.None ↦ parseOther c 0 a later (a .field .desc) | Cond.Some id is ↦ parseOptionalField c id is (a .field .desc) ]
 
     by-cond : (cond : Cond) → emit (valueBy cond) ≡ emitBy cond
-    by-cond Cond.None = others-agree shift a later (a .field .desc)
-    by-cond (Cond.Some id value) = optionals-agree id value (a .field .desc)
+    by-cond Cond.None = others-agree (a .field .desc)
+    by-cond (Cond.Some id is) = optionals-agree id is (a .field .desc)
 
-    pub unchecked-agree : emit (uncheckedAt (c .source) (c .scope) (c .fields) (c .endianness) shift a later) ≡ parseUnchecked c shift a later
+    pub unchecked-agree : emit (uncheckedAt (c .source) (c .scope) (c .fields) (c .options .endianness) a later) ≡ parseUnchecked c 0 a later
     unfolding uncheckedAt parseUnchecked
     unchecked-agree = by-cond (a .field .cond)

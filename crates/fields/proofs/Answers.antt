@@ -7,19 +7,18 @@ use mathlib.Core.Path.{_≡_, refl, sym, ap, _∙_}
 use native.Mathlib.Omega.{arith}
 use lib.ListN.{getD}
 use Rattle.definitions.specs.Bytes.{Text, text}
-use Rattle.definitions.specs.Sizes.{Row, Annotated, EnumOf, enumIs, noEnum, enumOf, hasPayloadSize, descSize}
+use Rattle.definitions.specs.Sizes.{Row, Annotated, enumOf, hasPayloadSize, descSize}
 use Rattle.definitions.specs.Refusals.{largeSize}
 use Rattle.definitions.specs.FieldParser.{Setting, getTrailingSize, sizeBacking, parseUnchecked}
+use Rattle.definitions.specs.declared.EnumOf.{EnumOf}
 use Rattle.definitions.specs.declared.Arrays.{Arrays}
 use Rattle.definitions.specs.declared.Cond.{Cond}
 use Rattle.definitions.specs.declared.EndiannessValue.{EndiannessValue}
 use Rattle.definitions.specs.declared.Field.{Field}
 use Rattle.definitions.specs.declared.FieldDesc.{FieldDesc}
-use Rattle.definitions.specs.declared.MaybeNumber.{MaybeNumber}
 use Rattle.definitions.specs.declared.Modifier.{Modifier}
 use Rattle.definitions.specs.declared.Part.{Part}
 use Rattle.definitions.specs.declared.Size.{Size}
-use Rattle.rows.specs.Enums.{enumType}
 use Rattle.emits.specs.BlockOf.{emitOf, EmitFits}
 use Rattle.tables.specs.Tables.{fieldHere, Tables, tablesOf, rowsOf, fieldsOf}
 use Rattle.emits.specs.Target.{settingAt, annotatedAt, restAt, Fine}
@@ -28,7 +27,8 @@ use Rattle.emits.proofs.Fines.{size-fine}
 use Rattle.trailing.proofs.Fits.{typedef-fits, payload-fits}
 use Rattle.array_fields.proofs.Fits.{array-fits}
 use Rattle.fields.specs.Parsed.{parsedAt}
-use Rattle.fields.specs.Values.{optionalType, optionalAt, otherAt, uncheckedAt}
+use Rattle.fields.specs.Values.{optionalType, optionalAt, otherOf, otherAt, uncheckedAt}
+use Rattle.fields.specs.declared.Other.{Other}
 use Rattle.fields.proofs.Agree.{unchecked-agree}
 
 -- ---- what is no array fits
@@ -50,34 +50,34 @@ optional-fits s rows cond value (FieldDesc.Scalar id width) = omega arith
 optional-fits s rows cond value (FieldDesc.Flag id) = tt
 optional-fits s rows cond value (FieldDesc.Typedef id type) = by (enumOf s rows type)
   where
-    by : (e : EnumOf) → EmitFits (optionalType cond value id type (enumType e))
-    by (enumIs width true isComplete) = omega arith
-    by (enumIs width false isComplete) = omega arith
-    by noEnum = omega arith
+    by : (e : EnumOf) → EmitFits (optionalType cond value id type e)
+    by (EnumOf.Enum width true isComplete) = omega arith
+    by (EnumOf.Enum width false isComplete) = omega arith
+    by EnumOf.None = omega arith
 
 -- ---- an array that is not over the limit fits too
 
-module _ (s : Text) (rows : List Row) (fs : List Field) (order : EndiannessValue) (shift : ℕ) (size : Size) (padding trailing : MaybeNumber) where
-  other-fits : (d : FieldDesc) → largeSize (descSize s rows fs d) ≡ false → EmitFits (otherAt s rows fs order shift size padding trailing d)
-  unfolding otherAt descSize
+module _ (s : Text) (rows : List Row) (fs : List Field) (order : EndiannessValue) (a : Annotated) (later : List Annotated) where
+  other-fits : (d : FieldDesc) → largeSize (descSize s rows fs d) ≡ false → EmitFits (otherAt s rows fs a later (otherOf order d))
+  unfolding otherAt otherOf descSize
   other-fits (FieldDesc.Checksum of) h = tt
   other-fits (FieldDesc.Padding bytes) h = tt
   other-fits (FieldDesc.Size of width) h = tt
   other-fits (FieldDesc.Count of width) h = tt
   other-fits (FieldDesc.ElementSize of width) h = tt
-  other-fits FieldDesc.Body h = payload-fits shift Modifier.None (hasPayloadSize s fs) trailing
-  other-fits (FieldDesc.Payload modifier) h = payload-fits shift modifier (hasPayloadSize s fs) trailing
+  other-fits FieldDesc.Body h = payload-fits Modifier.None (hasPayloadSize s fs) (getTrailingSize later)
+  other-fits (FieldDesc.Payload modifier) h = payload-fits modifier (hasPayloadSize s fs) (getTrailingSize later)
   other-fits (FieldDesc.FixedScalar width value) h = tt
   other-fits (FieldDesc.FixedEnum type tag) h = tt
   other-fits (FieldDesc.Reserved width) h = tt
-  other-fits (FieldDesc.Array id width type modifier count) h = array-fits s rows fs id order padding width type modifier count h
+  other-fits (FieldDesc.Array id width type modifier count) h = array-fits s rows fs (a .paddedSize) _ h
   other-fits (FieldDesc.Scalar id width) h = tt
   other-fits (FieldDesc.Flag id) h = tt
-  other-fits (FieldDesc.Typedef id type) h = typedef-fits shift id type size trailing
+  other-fits (FieldDesc.Typedef id type) h = typedef-fits id type (getTrailingSize later) (a .fieldSize)
 
 -- ---- field k
 
-module _ (s rows values fields : List ℕ) (i n k shift : ℕ) (order : EndiannessValue) where
+module _ (s rows values fields : List ℕ) (i n k : ℕ) (order : EndiannessValue) where
   abbrev tables : Tables
   tables = tablesOf s rows values fields
 
@@ -94,13 +94,13 @@ module _ (s rows values fields : List ℕ) (i n k shift : ℕ) (order : Endianne
   later = restAt tables i n (k + 1)
 
   abbrev setting : Arrays → Setting
-  setting m = settingAt tables i n order m
+  setting m = settingAt tables i n (record { endianness = order; arrays = m })
 
   abbrev answer : EmitAt
-  answer = parsedAt tables i n k shift order
+  answer = parsedAt tables i n k order
 
   abbrev other : FieldDesc → EmitAt
-  other d = otherAt s scope fs order shift (here .fieldSize) (here .paddedSize) (getTrailingSize later) d
+  other d = otherAt s scope fs here later (otherOf order d)
 
   abbrev valueBy : Field → Cond → EmitAt
   valueBy f cond = elim cond [ Cond.None ↦ other (f .desc) | Cond.Some id value ↦ optionalAt s scope id value (f .desc) ]
@@ -117,19 +117,19 @@ module _ (s rows values fields : List ℕ) (i n k shift : ℕ) (order : Endianne
         → r ≡ optionalAt s scope id value (f .desc) → r ≡ answer
     parsed-optional e h = h ∙ chosen ef e
 
-    pub parsed-other : f .cond ≡ Cond.None → r ≡ other (f .desc) → r ≡ answer
-    parsed-other e h = h ∙ chosen ef e
+    pub parsed-other : f .cond ≡ Cond.None → {o : Other} → o ≡ otherOf order (f .desc) → r ≡ otherAt s scope fs here later o → r ≡ answer
+    parsed-other e eo h = h ∙ ap (otherAt s scope fs here later) eo ∙ chosen ef e
 
   -- ---- what it stands for: the definitions' `parseUnchecked`, in both modes
 
-  pub answer-agrees : (m : Arrays) → emitOf s (text "payload") order m (λ id. sizeBacking s id fs) answer ≡ parseUnchecked (setting m) shift here later
-  answer-agrees m = unchecked-agree (setting m) shift here later
+  pub answer-agrees : (m : Arrays) → emitOf s (text "payload") order m (λ id. sizeBacking s id fs) answer ≡ parseUnchecked (setting m) 0 here later
+  answer-agrees m = unchecked-agree (setting m) here later
 
   -- ---- its numbers fit
 
   module _ (fine : Fine tables i n) (w : k < n) where
     fits-by : (cond : Cond) → here .field .cond ≡ cond → EmitFits (valueBy (here .field) cond)
-    fits-by Cond.None e = other-fits s scope fs order shift (here .fieldSize) (here .paddedSize) (getTrailingSize later) (here .field .desc) plain
+    fits-by Cond.None e = other-fits s scope fs order here later (here .field .desc) plain
       where
         plain : largeSize (descSize s scope fs (here .field .desc)) ≡ false
         plain =

@@ -1,30 +1,31 @@
 // `parse` of cxx.rs for a field that is no bit field, as a value, with `parse_optional_field` (refusal 13): the arms of a typedef and a payload are in the
 // crate `trailing`, that of an array in `array_fields`. The field is number k of the n that the declaration with the index i has from 64 i on.
 
+use array_fields::ArrayField;
 use definitions::Cond;
 use definitions::EndiannessValue;
+use definitions::EnumOf;
 use definitions::FieldDesc;
 use definitions::Modifier;
 use definitions::Part;
 use definitions::Refusal;
 use emits::BlockAt;
 use emits::EmitAt;
-use rows::EnumType;
+use trailing::TypedefParts;
 ghost use mathlib.Core.Path.{_≡_};
 ghost use Prim.Native.Nat.{_+_, _<_};
-ghost use Rattle.definitions.specs.FieldParser.{getTrailingSize};
 ghost use Rattle.tables.specs.Tables.{rowsFrom, Tables, tablesOf, rowsOf, fieldsOf};
 ghost use Rattle.emits.specs.Target.{annotatedAt, restAt, Fine};
-ghost use Rattle.fields.specs.Values.{optionalType, optionalAt, otherAt};
+ghost use Rattle.fields.specs.Values.{optionalType, optionalAt, otherOf, otherAt};
 ghost use Rattle.fields.specs.Parsed.{parsedAt};
 
 // ---- an optional field
 
-fn optional_typedef(cond: Part, value: u64, id: Part, type_id: Part, e: EnumType) -> EmitAt
+fn optional_typedef(cond: Part, value: u64, id: Part, type_id: Part, e: EnumOf) -> EmitAt
     ensures { λ r. ⌜ r ≡ optionalType cond value id «type_id» e ⌝ }
 {
     match e {
-        EnumType::Enum {
+        EnumOf::Enum {
             width,
             open,
             complete: _,
@@ -46,7 +47,7 @@ fn optional_typedef(cond: Part, value: u64, id: Part, type_id: Part, e: EnumType
                 type_id,
             })
         }
-        EnumType::None => EmitAt::Appends(BlockAt::OptionalNested {
+        EnumOf::None => EmitAt::Appends(BlockAt::OptionalNested {
             cond,
             value,
             id,
@@ -66,44 +67,12 @@ fn parse_optional_field(
     ensures { λ r. ⌜ r ≡ optionalAt (now (rec .entry)) (rowsFrom (now (rows .entry)) 0 i) cond value desc ⌝ }
 {
     match desc {
-        FieldDesc::Checksum { field_id: _ } => EmitAt::Refuses(Refusal::UnsupportedOptional),
-        FieldDesc::Padding { size: _ } => EmitAt::Refuses(Refusal::UnsupportedOptional),
-        FieldDesc::Size {
-            field_id: _,
-            width: _,
-        } => EmitAt::Refuses(Refusal::UnsupportedOptional),
-        FieldDesc::Count {
-            field_id: _,
-            width: _,
-        } => EmitAt::Refuses(Refusal::UnsupportedOptional),
-        FieldDesc::ElementSize {
-            field_id: _,
-            width: _,
-        } => EmitAt::Refuses(Refusal::UnsupportedOptional),
-        FieldDesc::Body => EmitAt::Refuses(Refusal::UnsupportedOptional),
-        FieldDesc::Payload { size_modifier: _ } => EmitAt::Refuses(Refusal::UnsupportedOptional),
-        FieldDesc::FixedScalar { width: _, value: _ } => EmitAt::Refuses(
-            Refusal::UnsupportedOptional,
-        ),
-        FieldDesc::FixedEnum {
-            enum_id: _,
-            tag_id: _,
-        } => EmitAt::Refuses(Refusal::UnsupportedOptional),
-        FieldDesc::Reserved { width: _ } => EmitAt::Refuses(Refusal::UnsupportedOptional),
-        FieldDesc::Array {
-            id: _,
-            width: _,
-            type_id: _,
-            size_modifier: _,
-            size: _,
-        } => EmitAt::Refuses(Refusal::UnsupportedOptional),
         FieldDesc::Scalar { id, width } => EmitAt::Appends(BlockAt::OptionalScalar {
             cond,
             value,
             width,
             id,
         }),
-        FieldDesc::Flag { id: _ } => EmitAt::Refuses(Refusal::UnsupportedOptional),
         FieldDesc::Typedef { id, type_id } => optional_typedef(
             cond,
             value,
@@ -111,133 +80,119 @@ fn parse_optional_field(
             type_id,
             rows::enum_of(rec, rows, i, type_id),
         ),
+        FieldDesc::Checksum { .. }
+        | FieldDesc::Padding { .. }
+        | FieldDesc::Size { .. }
+        | FieldDesc::Count { .. }
+        | FieldDesc::ElementSize { .. }
+        | FieldDesc::Body
+        | FieldDesc::Payload { .. }
+        | FieldDesc::FixedScalar { .. }
+        | FieldDesc::FixedEnum { .. }
+        | FieldDesc::Reserved { .. }
+        | FieldDesc::Array { .. }
+        | FieldDesc::Flag { .. } => EmitAt::Refuses(Refusal::UnsupportedOptional),
     }
 }
 
 // ---- `parse`
 
-// Its arms for a field without a condition; bit fields do not come here.
-fn parse_other(
-    rec: &[u8],
-    rows: &[u64],
-    values: &[u64],
-    fields: &[usize],
-    i: usize,
-    n: usize,
-    k: usize,
-    shift: u64,
-    endianness: EndiannessValue,
-    desc: FieldDesc,
-) -> EmitAt
-    requires { ⌜ k < n ⌝ }
-    requires { let t : Tables = tablesOf (now rec) (now rows) (now values) (now fields) in ⌜ Fine t i n ⌝ }
-    ensures { λ r. let t : Tables = tablesOf (now (rec .entry)) (now (rows .entry)) (now (values .entry)) (now (fields .entry)) in
-        ⌜ r ≡ otherAt (t .source) (rowsOf t i) (fieldsOf t i n) endianness shift (annotatedAt t i n k .fieldSize) (annotatedAt t i n k .paddedSize)
-        (getTrailingSize (restAt t i n (k + 1))) desc ⌝ }
+// What its arms tell apart in a field without a condition; bit fields do not come here.
+pub enum Other {
+    Silent,
+    Payload(Modifier),
+    Array(ArrayField),
+    Typedef(TypedefParts),
+}
+
+fn other_of(endianness: EndiannessValue, desc: FieldDesc) -> Other
+    ensures { λ r. ⌜ r ≡ otherOf endianness desc ⌝ }
 {
     match desc {
-        FieldDesc::Checksum { field_id: _ } => EmitAt::Silent,
-        FieldDesc::Padding { size: _ } => EmitAt::Silent,
-        FieldDesc::Size {
-            field_id: _,
-            width: _,
-        } => EmitAt::Silent,
-        FieldDesc::Count {
-            field_id: _,
-            width: _,
-        } => EmitAt::Silent,
-        FieldDesc::ElementSize {
-            field_id: _,
-            width: _,
-        } => EmitAt::Silent,
-        FieldDesc::Body => trailing::parse_payload_field_lite(
-            rec,
-            rows,
-            values,
-            fields,
-            i,
-            n,
-            k,
-            shift,
-            Modifier::None,
-        ),
-        FieldDesc::Payload { size_modifier } => trailing::parse_payload_field_lite(
-            rec,
-            rows,
-            values,
-            fields,
-            i,
-            n,
-            k,
-            shift,
-            size_modifier,
-        ),
-        FieldDesc::FixedScalar { width: _, value: _ } => EmitAt::Silent,
-        FieldDesc::FixedEnum {
-            enum_id: _,
-            tag_id: _,
-        } => EmitAt::Silent,
-        FieldDesc::Reserved { width: _ } => EmitAt::Silent,
+        FieldDesc::Body => Other::Payload(Modifier::None),
+        FieldDesc::Payload { size_modifier } => Other::Payload(size_modifier),
         FieldDesc::Array {
             id,
             width,
             type_id,
             size_modifier,
             size,
-        } => EmitAt::Appends(array_fields::parse_array_field(
-            rec,
-            rows,
-            values,
-            fields,
-            i,
-            n,
-            k,
-            endianness,
+        } => Other::Array(ArrayField {
             id,
             width,
             type_id,
             size_modifier,
             size,
-        )),
-        FieldDesc::Scalar { id: _, width: _ } => EmitAt::Silent,
-        FieldDesc::Flag { id: _ } => EmitAt::Silent,
-        FieldDesc::Typedef { id, type_id } => trailing::parse_typedef_field(
-            rec,
-            rows,
-            values,
-            fields,
-            i,
-            n,
-            k,
-            shift,
-            id,
-            type_id,
-        ),
+            endianness,
+        }),
+        FieldDesc::Typedef { id, type_id } => Other::Typedef(TypedefParts { id, type_id }),
+        FieldDesc::Checksum { .. }
+        | FieldDesc::Padding { .. }
+        | FieldDesc::Size { .. }
+        | FieldDesc::Count { .. }
+        | FieldDesc::ElementSize { .. }
+        | FieldDesc::FixedScalar { .. }
+        | FieldDesc::FixedEnum { .. }
+        | FieldDesc::Reserved { .. }
+        | FieldDesc::Scalar { .. }
+        | FieldDesc::Flag { .. } => Other::Silent,
     }
 }
 
-// What field k comes to where it is no bit field, with `shift` bits in the open chunk.
+fn parse_other(
+    rec: &[u8],
+    rows: &[u64],
+    values: &[u64],
+    fields: &[u16],
+    i: usize,
+    n: usize,
+    k: usize,
+    other: Other,
+) -> EmitAt
+    requires { ⌜ k < n ⌝ }
+    requires { let t : Tables = tablesOf (now rec) (now rows) (now values) (now fields) in ⌜ Fine t i n ⌝ }
+    ensures { λ r. let t : Tables = tablesOf (now (rec .entry)) (now (rows .entry)) (now (values .entry)) (now (fields .entry)) in
+        ⌜ r ≡ otherAt (t .source) (rowsOf t i) (fieldsOf t i n) (annotatedAt t i n k) (restAt t i n (k + 1)) other ⌝ }
+{
+    match other {
+        Other::Silent => EmitAt::Silent,
+        Other::Payload(modifier) => {
+            trailing::parse_payload_field_lite(rec, rows, values, fields, i, n, k, modifier)
+        }
+        Other::Array(array) => {
+            let block = array_fields::parse_array_field(rec, rows, values, fields, i, n, k, array);
+            EmitAt::Appends(block)
+        }
+        Other::Typedef(typedef) => {
+            trailing::parse_typedef_field(rec, rows, values, fields, i, n, k, typedef)
+        }
+    }
+}
+
+// What field k comes to where it is no bit field, on an octet boundary.
 pub fn parse_unchecked(
     rec: &[u8],
     rows: &[u64],
     values: &[u64],
-    fields: &[usize],
+    fields: &[u16],
     i: usize,
     n: usize,
     k: usize,
-    shift: u64,
     endianness: EndiannessValue,
 ) -> EmitAt
     requires { ⌜ k < n ⌝ }
     requires { let t : Tables = tablesOf (now rec) (now rows) (now values) (now fields) in ⌜ Fine t i n ⌝ }
     ensures { λ r. let t : Tables = tablesOf (now (rec .entry)) (now (rows .entry)) (now (values .entry)) (now (fields .entry)) in
-        ⌜ r ≡ parsedAt t i n k shift endianness ⌝ }
+        ⌜ r ≡ parsedAt t i n k endianness ⌝ }
 {
     let f = references::field_in(values, fields, i, k);
     let cond = f.cond;
     let desc = f.desc;
     match cond {
-        Cond::None => parse_other(rec, rows, values, fields, i, n, k, shift, endianness, desc),
+        Cond::None => {
+            let other = other_of(endianness, desc);
+            parse_other(rec, rows, values, fields, i, n, k, other)
+        }
         Cond::Some { id, value } => parse_optional_field(rec, rows, i, id, value, desc),
     }
 }

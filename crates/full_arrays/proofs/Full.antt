@@ -25,7 +25,8 @@ use Rattle.full_arrays.specs.Statements.{ownSpanStmt, countedStmts, prod
 use Rattle.array_lines.proofs.Laws.{three}
 use Rattle.full_arrays.specs.Shapes.{fullText}
 
-pub by-full : (id type : Text) (element : Element) (e d : ElementSize) (n : ArraySize) {l l₁ : Text} {i r : ℕ} → e ≡ d → Put l i (fullText id type element d n) r l₁
+pub by-full : (id type : Text) (element : Element) (e d : ElementSize) (n : ArraySize) {l l₁ : Text} {i r : ℕ} → e ≡ d
+    → Put l i (fullText id type element d n) r l₁
     → Put l i (fullText id type element e n) r l₁
 by-full id type element e d n h p = rw h p
 
@@ -36,7 +37,8 @@ unfolding stmtsBytes
 then-one xs s p t = follow (stmts-leads xs) p t
 
 module _ (id type : Text) (element : Element) (n : ArraySize) where
-  full-shape : (e : ElementSize) (k : ArraySize) {l l₁ : Text} {i r : ℕ} → n ≡ k → Put l i (fullText id type element e k) r l₁ → Put l i (fullText id type element e n) r l₁
+  full-shape : (e : ElementSize) (k : ArraySize) {l l₁ : Text} {i r : ℕ} → n ≡ k → Put l i (fullText id type element e k) r l₁
+      → Put l i (fullText id type element e n) r l₁
   full-shape e k h p = rw h p
 
   -- a loop over elements
@@ -46,7 +48,8 @@ module _ (id type : Text) (element : Element) (n : ArraySize) where
   module _ (es : ℕ) where
     pub full-static-count : (k : ℕ) {l l₁ l₂ : Text} {i r₁ r₂ : ℕ} → n ≡ ArraySize.StaticCount k
         → Put l i (stmtBytes (checkStmt Arrays.Full id (Amount.Of (Term.Literal (es * k))))) r₁ l₁
-        → Put l₁ r₁ (stmtBytes (loopOf Arrays.Full id (Loop.Times (Amount.Of (Term.Literal k))) (parseArrayElement span (elementOf type element) (placeOf id Place.Slot) Out.out))) r₂ l₂
+        → Put l₁ r₁ (stmtBytes (loopOf Arrays.Full id (Loop.Times (Amount.Of (Term.Literal k)))
+        (parseArrayElement span (elementOf type element) (placeOf id Place.Slot) Out.out))) r₂ l₂
         → Put l i (fullText id type element (ElementSize.Static es) n) r₂ l₂
     unfolding fullText overElements
     full-static-count k h p q =
@@ -56,7 +59,8 @@ module _ (id type : Text) (element : Element) (n : ArraySize) where
 
     pub full-static-counted : {l l₁ l₂ : Text} {i r₁ r₂ : ℕ} → n ≡ ArraySize.DynamicCount
         → Put l i (stmtBytes (checkStmt Arrays.Full id (Amount.Product (Term.Literal es) Term.Count))) r₁ l₁
-        → Put l₁ r₁ (stmtBytes (loopOf Arrays.Full id (Loop.Times (Amount.Of Term.Count)) (parseArrayElement span (elementOf type element) (placeOf id Place.Push) Out.out))) r₂ l₂
+        → Put l₁ r₁ (stmtBytes (loopOf Arrays.Full id (Loop.Times (Amount.Of Term.Count))
+        (parseArrayElement span (elementOf type element) (placeOf id Place.Push) Out.out))) r₂ l₂
         → Put l i (fullText id type element (ElementSize.Static es) n) r₂ l₂
     unfolding fullText overElements
     full-static-counted h p q =
@@ -64,7 +68,8 @@ module _ (id type : Text) (element : Element) (n : ArraySize) where
         (first (checkStmt Arrays.Full id (Amount.Product (Term.Literal es) Term.Count)) (overElements (Amount.Of Term.Count) Place.Push ∷ []) p
         (only (overElements (Amount.Of Term.Count) Place.Push) q))
 
-    pub full-static-sized : {l l₁ l₂ : Text} {i r₁ r₂ : ℕ} → n ≡ ArraySize.DynamicSize → Put l i (stmtBytes (checkStmt Arrays.Full id (Amount.Of Term.Size))) r₁ l₁
+    pub full-static-sized : {l l₁ l₂ : Text} {i r₁ r₂ : ℕ} → n ≡ ArraySize.DynamicSize
+        → Put l i (stmtBytes (checkStmt Arrays.Full id (Amount.Of Term.Size))) r₁ l₁
         → Put l₁ r₁ (stmtsBytes (countedStmts id type Term.Size es element)) r₂ l₂
         → Put l i (fullText id type element (ElementSize.Static es) n) r₂ l₂
     unfolding fullText
@@ -87,7 +92,8 @@ module _ (id type : Text) (element : Element) (n : ArraySize) where
   unfolding fullText
   full-dynamic-counted h p = full-shape ElementSize.Dynamic ArraySize.DynamicCount h p
 
-  pub full-dynamic-sized : {l l₁ l₂ l₃ : Text} {i r₁ r₂ r₃ : ℕ} → n ≡ ArraySize.DynamicSize → Put l i (stmtBytes (checkStmt Arrays.Full id (Amount.Of Term.Size))) r₁ l₁
+  pub full-dynamic-sized : {l l₁ l₂ l₃ : Text} {i r₁ r₂ r₃ : ℕ} → n ≡ ArraySize.DynamicSize
+      → Put l i (stmtBytes (checkStmt Arrays.Full id (Amount.Of Term.Size))) r₁ l₁
       → Put l₁ r₁ (stmtsBytes (countedParts id type Term.Size)) r₂ l₂
       → Put l₂ r₂ (stmtBytes (skipStmt Arrays.Full id (Amount.Of Term.Size))) r₃ l₃
       → Put l i (fullText id type element ElementSize.Dynamic n) r₃ l₃
@@ -110,32 +116,38 @@ module _ (id type : Text) (element : Element) (n : ArraySize) where
     overMoved = loopOf Arrays.Full id head (parseArrayElement (sourceOf id source) (Elem.parsed type) (placeOf id place) Out.moved)
 
   pub full-unknown-count : (k : ℕ) {l l₁ : Text} {i r : ℕ} → n ≡ ArraySize.StaticCount k
-      → Put l i (stmtBytes (loopOf Arrays.Full id (Loop.Times (Amount.Of (Term.Literal k))) (parseArrayElement (sourceOf id Source.Span) (Elem.parsed type) (placeOf id Place.Slot) Out.moved))) r l₁
+      → Put l i (stmtBytes (loopOf Arrays.Full id (Loop.Times (Amount.Of (Term.Literal k)))
+      (parseArrayElement (sourceOf id Source.Span) (Elem.parsed type) (placeOf id Place.Slot) Out.moved))) r l₁
       → Put l i (fullText id type element ElementSize.Unknown n) r l₁
   unfolding fullText overMoved
   full-unknown-count k h p =
       full-shape ElementSize.Unknown (ArraySize.StaticCount k) h (only (overMoved (Loop.Times (Amount.Of (Term.Literal k))) Source.Span Place.Slot) p)
 
   pub full-unknown-counted : {l l₁ : Text} {i r : ℕ} → n ≡ ArraySize.DynamicCount
-      → Put l i (stmtBytes (loopOf Arrays.Full id (Loop.Times (Amount.Of Term.Count)) (parseArrayElement (sourceOf id Source.Span) (Elem.parsed type) (placeOf id Place.Push) Out.moved))) r l₁
+      → Put l i (stmtBytes (loopOf Arrays.Full id (Loop.Times (Amount.Of Term.Count))
+      (parseArrayElement (sourceOf id Source.Span) (Elem.parsed type) (placeOf id Place.Push) Out.moved))) r l₁
       → Put l i (fullText id type element ElementSize.Unknown n) r l₁
   unfolding fullText overMoved
   full-unknown-counted h p =
       full-shape ElementSize.Unknown ArraySize.DynamicCount h (only (overMoved (Loop.Times (Amount.Of Term.Count)) Source.Span Place.Push) p)
 
-  pub full-unknown-sized : {l l₁ l₂ l₃ l₄ : Text} {i r₁ r₂ r₃ r₄ : ℕ} → n ≡ ArraySize.DynamicSize → Put l i (stmtBytes (checkStmt Arrays.Full id (Amount.Of Term.Size))) r₁ l₁
+  pub full-unknown-sized : {l l₁ l₂ l₃ l₄ : Text} {i r₁ r₂ r₃ r₄ : ℕ} → n ≡ ArraySize.DynamicSize
+      → Put l i (stmtBytes (checkStmt Arrays.Full id (Amount.Of Term.Size))) r₁ l₁
       → Put l₁ r₁ (stmtBytes (ownSpanStmt id)) r₂ l₂
-      → Put l₂ r₂ (stmtBytes (loopOf Arrays.Full id Loop.WhileOwn (parseArrayElement (sourceOf id Source.OwnSpan) (Elem.parsed type) (placeOf id Place.Push) Out.moved))) r₃ l₃
+      → Put l₂ r₂ (stmtBytes (loopOf Arrays.Full id Loop.WhileOwn
+      (parseArrayElement (sourceOf id Source.OwnSpan) (Elem.parsed type) (placeOf id Place.Push) Out.moved))) r₃ l₃
       → Put l₃ r₃ (stmtBytes (skipStmt Arrays.Full id (Amount.Of Term.Size))) r₄ l₄
       → Put l i (fullText id type element ElementSize.Unknown n) r₄ l₄
   unfolding fullText overMoved
   full-unknown-sized h p q t u =
       full-shape ElementSize.Unknown ArraySize.DynamicSize h
-      (first (checkStmt Arrays.Full id (Amount.Of Term.Size)) (ownSpanStmt id ∷ overMoved Loop.WhileOwn Source.OwnSpan Place.Push ∷ skipStmt Arrays.Full id (Amount.Of Term.Size) ∷ []) p
+      (first (checkStmt Arrays.Full id (Amount.Of Term.Size))
+      (ownSpanStmt id ∷ overMoved Loop.WhileOwn Source.OwnSpan Place.Push ∷ skipStmt Arrays.Full id (Amount.Of Term.Size) ∷ []) p
       (three (ownSpanStmt id) (overMoved Loop.WhileOwn Source.OwnSpan Place.Push) (skipStmt Arrays.Full id (Amount.Of Term.Size)) q t u))
 
   pub full-unknown-rest : {l l₁ : Text} {i r : ℕ} → n ≡ ArraySize.Unknown
-      → Put l i (stmtBytes (loopOf Arrays.Full id Loop.WhileRest (parseArrayElement (sourceOf id Source.Span) (Elem.parsed type) (placeOf id Place.Push) Out.moved))) r l₁
+      → Put l i (stmtBytes (loopOf Arrays.Full id Loop.WhileRest
+      (parseArrayElement (sourceOf id Source.Span) (Elem.parsed type) (placeOf id Place.Push) Out.moved))) r l₁
       → Put l i (fullText id type element ElementSize.Unknown n) r l₁
   unfolding fullText overMoved
   full-unknown-rest h p = full-shape ElementSize.Unknown ArraySize.Unknown h (only (overMoved Loop.WhileRest Source.Span Place.Push) p)

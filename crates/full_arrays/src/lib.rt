@@ -67,7 +67,9 @@ fn put_counted(
     element_size: u64,
     element: Element,
 ) -> usize
-    ensures { λ r. ⌜ Put (now (out .entry)) at (stmtsBytes (countedStmts (now (id .entry)) (now («type_id» .entry)) size «element_size» element)) r (now (out .exit)) ⌝ }
+    ensures { λ r. ⌜ Put (now (out .entry)) at
+        (stmtsBytes (countedStmts (now (id .entry)) (now («type_id» .entry)) size «element_size» element))
+        r (now (out .exit)) ⌝ }
 {
     let p = array_lines::put_ragged(out, at, Arrays::Full, id, size, Term::Literal(element_size));
     let q = put_own_count(out, p, id, size, Term::Literal(element_size));
@@ -124,7 +126,9 @@ fn put_static_full(
     array_size: ArraySize,
 ) -> usize
     requires { ⌜ ProductFits (ElementSize.Static «element_size») «array_size» ⌝ }
-    ensures { λ r. ⌜ Put (now (out .entry)) at (fullText (now (id .entry)) (now («type_id» .entry)) element (ElementSize.Static «element_size») «array_size») r (now (out .exit)) ⌝ }
+    ensures { λ r. ⌜ Put (now (out .entry)) at
+        (fullText (now (id .entry)) (now («type_id» .entry)) element (ElementSize.Static «element_size») «array_size»)
+        r (now (out .exit)) ⌝ }
 {
     match array_size {
         ArraySize::StaticCount(count) => {
@@ -180,7 +184,9 @@ fn put_dynamic_full(
     element: Element,
     array_size: ArraySize,
 ) -> usize
-    ensures { λ r. ⌜ Put (now (out .entry)) at (fullText (now (id .entry)) (now («type_id» .entry)) element ElementSize.Dynamic «array_size») r (now (out .exit)) ⌝ }
+    ensures { λ r. ⌜ Put (now (out .entry)) at
+        (fullText (now (id .entry)) (now («type_id» .entry)) element ElementSize.Dynamic «array_size»)
+        r (now (out .exit)) ⌝ }
 {
     match array_size {
         ArraySize::StaticCount(count) => put_product_parts(
@@ -211,7 +217,9 @@ fn put_unknown_full(
     element: Element,
     array_size: ArraySize,
 ) -> usize
-    ensures { λ r. ⌜ Put (now (out .entry)) at (fullText (now (id .entry)) (now («type_id» .entry)) element ElementSize.Unknown «array_size») r (now (out .exit)) ⌝ }
+    ensures { λ r. ⌜ Put (now (out .entry)) at
+        (fullText (now (id .entry)) (now («type_id» .entry)) element ElementSize.Unknown «array_size»)
+        r (now (out .exit)) ⌝ }
 {
     match array_size {
         ArraySize::StaticCount(count) => {

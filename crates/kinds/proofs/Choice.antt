@@ -13,7 +13,9 @@ use Rattle.definitions.specs.Bytes.{Text, text}
 use Rattle.definitions.specs.Record.{keyOf, keyAt, onFound, Kinds, choose, descAt}
 use Rattle.definitions.specs.declared.Found.{Found}
 use Rattle.definitions.specs.declared.DescRead.{DescRead}
-use Rattle.kinds.specs.Words.{fromNumbers}
+use Rattle.definitions.specs.declared.Part.{Part}
+use Rattle.kinds.specs.Words.{named, fromNumbers}
+use Rattle.kinds.specs.declared.Named.{Named}
 
 -- a key is read in two pieces
 key-append : (a k r : Text) (at : ℕ) → keyOf (a ++ k) r at ≡ onFound (keyOf a r at) Found.Nothing λ p. keyOf k (drop (length a) r) p
@@ -35,7 +37,8 @@ key-end [] r at p e = let q : at ≡ p = cc in sym q ∙ sym (add-zero at)
 key-end (x ∷ a) [] at p e = absurd (let z : _≡_ {A = ℕ} 0 1 = cc in omega arith)
 key-end (x ∷ a) (y ∷ r) at p e = by (eqb y x) (key-end a r (at + 1) p) e
   where
-    by : (b : Bool) → (keyOf a r (at + 1) ≡ Found.At p → p ≡ at + 1 + length a) → elim b [ true ↦ keyOf a r (at + 1) | false ↦ Found.Nothing ] ≡ Found.At p → p ≡ at + suc (length a)
+    by : (b : Bool) → (keyOf a r (at + 1) ≡ Found.At p → p ≡ at + 1 + length a)
+        → elim b [ true ↦ keyOf a r (at + 1) | false ↦ Found.Nothing ] ≡ Found.At p → p ≡ at + suc (length a)
     by true ih h = let q : p ≡ at + 1 + length a = ih h in omega arith
     by false ih h = absurd (let z : _≡_ {A = ℕ} 0 1 = cc in omega arith)
 
@@ -55,21 +58,31 @@ choose-prefixed a [] s r at = by (keyOf a r at)
 choose-prefixed a (k ∷ ks) s r at = rw (key-append a (k .0) r at, choose-prefixed a ks s r at) (by (keyOf a r at))
   where
     by : (f : Found)
-        → onFound (onFound f Found.Nothing λ p. keyOf (k .0) (drop (length a) r) p) (onFound f DescRead.Wrong λ p. choose ks s (drop (length a) r) p) (λ p. k .1 s p)
+        → onFound (onFound f Found.Nothing λ p. keyOf (k .0) (drop (length a) r) p)
+        (onFound f DescRead.Wrong λ p. choose ks s (drop (length a) r) p) (λ p. k .1 s p)
         ≡ onFound f DescRead.Wrong λ p. onFound (keyOf (k .0) (drop (length a) r) p) (choose ks s (drop (length a) r) p) (λ q. k .1 s q)
     by (Found.At p) = refl
     by Found.Nothing = refl
 
 module _ (s : Text) (at : ℕ) {f : Found} (ef : f ≡ keyAt s at (text "field=")) where
-  by-words : descAt s at ≡ onFound f DescRead.Wrong λ p. choose fromNumbers s (drop 6 (drop at s)) p
+  abbrev words : Found → DescRead
+  words g = onFound g DescRead.Wrong λ p. choose fromNumbers s (drop 6 (drop at s)) p
+
+  by-words : descAt s at ≡ words f
   unfolding descAt prefixed
-  by-words = choose-prefixed (text "field=") fromNumbers s (drop at s) at ∙ ap (λ (g : Found). onFound g DescRead.Wrong λ p. choose fromNumbers s (drop 6 (drop at s)) p) (sym ef)
+  by-words = choose-prefixed (text "field=") fromNumbers s (drop at s) at ∙ ap words (sym ef)
 
   pub no-field : f ≡ Found.Nothing → DescRead.Wrong ≡ descAt s at
-  no-field h = sym (by-words ∙ ap (λ (g : Found). onFound g DescRead.Wrong λ p. choose fromNumbers s (drop 6 (drop at s)) p) h)
+  no-field h = sym (by-words ∙ ap words h)
 
   pub by-word : {p : ℕ} → f ≡ Found.At p → {d : DescRead} → d ≡ choose fromNumbers s (drop p s) p → d ≡ descAt s at
   by-word {p} h e =
       e
-      ∙ ap (λ (r : Text). choose fromNumbers s r p) (ap (λ (q : ℕ). drop q s) (key-end (text "field=") (drop at s) at p (sym ef ∙ h)) ∙ sym (drop-drop 6 at s))
-      ∙ sym (by-words ∙ ap (λ (g : Found). onFound g DescRead.Wrong λ q. choose fromNumbers s (drop 6 (drop at s)) q) h)
+      ∙ ap (λ (r : Text). choose fromNumbers s r p)
+      (ap (λ (q : ℕ). drop q s) (key-end (text "field=") (drop at s) at p (sym ef ∙ h)) ∙ sym (drop-drop 6 at s))
+      ∙ sym (by-words ∙ ap words h)
+
+-- the field of a kind with a name and a width
+pub named-is : {kind k : Named} (name : Part) (width p : ℕ) {d : DescRead}
+    → kind ≡ k → d ≡ DescRead.Is (named k name width) p → d ≡ DescRead.Is (named kind name width) p
+named-is name width p h e = e ∙ ap (λ (k : Named). DescRead.Is (named k name width) p) (sym h)

@@ -2,9 +2,20 @@
 -- the others. Those that are no bit fields follow.
 -- Assumes nothing.
 use mathlib.Core.List.{[], _∷_, _++_}
+use Prim.Native.Nat.{ℕ}
 use Rattle.definitions.specs.Bytes.{text}
 use Rattle.definitions.specs.Record.{Kinds, scalarAt, sizeAt, countAt, elementSizeAt, fixedScalarAt, fixedEnumAt, reservedAt, flagAt, typedefAt}
+use Rattle.definitions.specs.declared.Part.{Part}
+use Rattle.definitions.specs.declared.FieldDesc.{FieldDesc}
 use Rattle.byte_kinds.specs.Words.{byteKinds}
+use Rattle.kinds.specs.declared.Named.{Named}
+
+-- the field of a name and a width
+abbrev pub named : Named → Part → ℕ → FieldDesc
+named Named.Scalar = FieldDesc.Scalar
+named Named.Size = FieldDesc.Size
+named Named.Count = FieldDesc.Count
+named Named.ElementSize = FieldDesc.ElementSize
 
 abbrev pub numberKinds : Kinds
 numberKinds =

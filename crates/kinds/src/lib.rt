@@ -7,59 +7,37 @@ use definitions::NameRead;
 use definitions::NumberRead;
 ghost use mathlib.Core.Path.{_≡_};
 ghost use lib.ListN.{drop};
-ghost use Rattle.definitions.specs.Record.{scalarAt, sizeAt, countAt, elementSizeAt, fixedScalarAt, fixedEnumAt, reservedAt, flagAt, typedefAt, choose, descAt};
-ghost use Rattle.kinds.specs.Words.{fromNumbers, fromSymbols};
+ghost use Rattle.definitions.specs.Record.{namedWidth, fixedScalarAt, fixedEnumAt, reservedAt, flagAt, typedefAt, choose, descAt};
+ghost use Rattle.kinds.specs.Words.{named, fromNumbers, fromSymbols};
 
-// The keys `id width`.
-fn scalar_at(rec: &[u8], at: usize) -> DescRead
-    ensures { λ r. ⌜ r ≡ scalarAt (now (rec .entry)) at ⌝ }
-{
-    let NameRead::Is(id, p) = keys::name_line(rec, at, b"id=") else {
-        return DescRead::Wrong;
-    };
-    let NumberRead::Is(width, q) = keys::number_line(rec, p, b"width=") else {
-        return DescRead::Wrong;
-    };
-    DescRead::Is(FieldDesc::Scalar { id, width }, q)
+// The kinds whose keys are a name and a width.
+enum Named {
+    Scalar,
+    Size,
+    Count,
+    ElementSize,
 }
 
-// The keys `of width` of a size.
-fn size_at(rec: &[u8], at: usize) -> DescRead
-    ensures { λ r. ⌜ r ≡ sizeAt (now (rec .entry)) at ⌝ }
+// A name under `key`, and the key `width`.
+fn named_width(rec: &[u8], at: usize, key: &[u8], kind: Named) -> DescRead
+    ensures { λ r. ⌜ r ≡ namedWidth (now (key .entry)) (named kind) (now (rec .entry)) at ⌝ }
 {
-    let NameRead::Is(field_id, p) = keys::name_line(rec, at, b"of=") else {
+    let NameRead::Is(field_id, p) = keys::name_line(rec, at, key) else {
         return DescRead::Wrong;
     };
     let NumberRead::Is(width, q) = keys::number_line(rec, p, b"width=") else {
         return DescRead::Wrong;
     };
-    DescRead::Is(FieldDesc::Size { field_id, width }, q)
-}
-
-// The keys `of width` of a count.
-fn count_at(rec: &[u8], at: usize) -> DescRead
-    ensures { λ r. ⌜ r ≡ countAt (now (rec .entry)) at ⌝ }
-{
-    let NameRead::Is(field_id, p) = keys::name_line(rec, at, b"of=") else {
-        return DescRead::Wrong;
+    let desc = match kind {
+        Named::Scalar => FieldDesc::Scalar {
+            id: field_id,
+            width,
+        },
+        Named::Size => FieldDesc::Size { field_id, width },
+        Named::Count => FieldDesc::Count { field_id, width },
+        Named::ElementSize => FieldDesc::ElementSize { field_id, width },
     };
-    let NumberRead::Is(width, q) = keys::number_line(rec, p, b"width=") else {
-        return DescRead::Wrong;
-    };
-    DescRead::Is(FieldDesc::Count { field_id, width }, q)
-}
-
-// The keys `of width` of an element size.
-fn element_size_at(rec: &[u8], at: usize) -> DescRead
-    ensures { λ r. ⌜ r ≡ elementSizeAt (now (rec .entry)) at ⌝ }
-{
-    let NameRead::Is(field_id, p) = keys::name_line(rec, at, b"of=") else {
-        return DescRead::Wrong;
-    };
-    let NumberRead::Is(width, q) = keys::number_line(rec, p, b"width=") else {
-        return DescRead::Wrong;
-    };
-    DescRead::Is(FieldDesc::ElementSize { field_id, width }, q)
+    DescRead::Is(desc, q)
 }
 
 // The keys `width value`.
@@ -136,16 +114,16 @@ fn number_kind(rec: &[u8], at: usize) -> DescRead
     ensures { λ r. ⌜ r ≡ choose fromNumbers (now (rec .entry)) (drop at (now (rec .entry))) at ⌝ }
 {
     if let Found::At(p) = names::key_at(rec, at, b"scalar\n") {
-        return scalar_at(rec, p);
+        return named_width(rec, p, b"id=", Named::Scalar);
     }
     if let Found::At(p) = names::key_at(rec, at, b"size\n") {
-        return size_at(rec, p);
+        return named_width(rec, p, b"of=", Named::Size);
     }
     if let Found::At(p) = names::key_at(rec, at, b"count\n") {
-        return count_at(rec, p);
+        return named_width(rec, p, b"of=", Named::Count);
     }
     if let Found::At(p) = names::key_at(rec, at, b"elemsize\n") {
-        return element_size_at(rec, p);
+        return named_width(rec, p, b"of=", Named::ElementSize);
     }
     if let Found::At(p) = names::key_at(rec, at, b"fixed\n") {
         return fixed_scalar_at(rec, p);

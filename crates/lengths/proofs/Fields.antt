@@ -9,11 +9,12 @@ use lib.Dec.{ltb, eqb}
 use lib.ListN.{length, length-append}
 use borrow.Author.Tests.{ltb-false}
 use Rattle.definitions.specs.Bytes.{Text, text, pick}
-use Rattle.definitions.specs.Sizes.{Annotated, EnumOf, enumIs, noEnum, enumOf, isBitfield, isPayloadId, hasPayloadSize, totalOf, typedElement, elementSize, arraySize, firstCount, countedBy, sameName, reference, anyReference, annotateField, paddedBy, annotateFields}
+use Rattle.definitions.specs.Sizes.{Annotated, enumOf, isBitfield, isPayloadId, hasPayloadSize, totalOf, typedElement, elementSize, arraySize, firstCount, countedBy, sameName, reference, anyReference, annotateField, paddedBy, annotateFields}
 use Rattle.definitions.specs.Sizes as sizes
 use Rattle.definitions.specs.Refusals.{badNumber, badModifier, badMaybe, badCount, badWidth}
 use Rattle.definitions.specs.Blocks.{Kind, Array, named, Block}
 use Rattle.definitions.specs.FieldParser.{Setting, FieldParser, Step, go, stop, andThen, new, checkCode, written, member, fieldName, isCondFor, enumKind, kindOf, parseBitField, Emit, appends, silent, refuses, onBoundary, onTrailing, getTrailingSize, typedefBySize, parseTypedefField, optionalTypedef, parseOptionalField, payloadName, payloadBySize, parsePayloadFieldLite, sizeBacking, typedElem, elemOf, typeName, arrayOf, withPadding, parseArrayField, parseOther, isBit, parseUnchecked, emitted, parse, parseAll, done, codeOf, lowerFields}
+use Rattle.definitions.specs.declared.EnumOf.{EnumOf}
 use Rattle.definitions.specs.declared.Part.{Part}
 use Rattle.definitions.specs.declared.MaybePart.{MaybePart}
 use Rattle.definitions.specs.declared.MaybeNumber.{MaybeNumber}
@@ -53,26 +54,26 @@ module _ (c : Setting) where
       by false = h
 
   member-short : (id : Part) → Named id → length (member c id) ≤ 41
-  member-short id h = omega (arith, named-length (c .arrays) (written c id) (text "_"), h)
+  member-short id h = omega (arith, named-length (c .options .arrays) (written c id) (text "_"), h)
 
   -- what a bit field's bits are put into
   enum-kind : (id type : Part) (e : EnumOf) → Named id → Named type → KindShort (enumKind (member c id) (written c type) e)
-  enum-kind id type (enumIs w o f) h k = by (o || f)
+  enum-kind id type (EnumOf.Enum w o f) h k = by (o || f)
     where
       by : (b : Bool) → KindShort (pick b (Kind.openEnum (member c id) (written c type)) (Kind.closedEnum (member c id) (written c type)))
       by true = (omega (arith, member-short id h), k)
       by false = (omega (arith, member-short id h), k)
-  enum-kind id type noEnum h k = omega (arith, member-short id h)
+  enum-kind id type EnumOf.None h k = omega (arith, member-short id h)
 
   kind-short : (d : FieldDesc) → DescIs Named d → KindShort (kindOf c d)
   unfolding kindOf
   kind-short (FieldDesc.Checksum of) h = tt
   kind-short (FieldDesc.Padding size) h = tt
   kind-short (FieldDesc.Size of width) h =
-      omega (arith, named-length (c .arrays) (fieldName c of) (text "_size_"), field-name of h)
-  kind-short (FieldDesc.Count of width) h = omega (arith, named-length (c .arrays) (written c of) (text "_count_"), h)
+      omega (arith, named-length (c .options .arrays) (fieldName c of) (text "_size_"), field-name of h)
+  kind-short (FieldDesc.Count of width) h = omega (arith, named-length (c .options .arrays) (written c of) (text "_count_"), h)
   kind-short (FieldDesc.ElementSize of width) h =
-      omega (arith, named-length (c .arrays) (fieldName c of) (text "_element_size_"), field-name of h)
+      omega (arith, named-length (c .options .arrays) (fieldName c of) (text "_element_size_"), field-name of h)
   kind-short FieldDesc.Body h = tt
   kind-short (FieldDesc.Payload modifier) h = tt
   kind-short (FieldDesc.FixedScalar width value) h = tt
@@ -114,7 +115,7 @@ module _ (c : Setting) where
       (nested-short (member c id) (member-short id h) (written c type) k))
 
   payload-length : (end : Text) → length (payloadName c end) ≤ 15 + length end
-  payload-length end = omega (arith, named-length (c .arrays) (text "payload") end)
+  payload-length end = omega (arith, named-length (c .options .arrays) (text "payload") end)
 
   payload-fits : (shift : ℕ) (m : Modifier) (later : List Annotated) → EmitFits plainField (parsePayloadFieldLite c shift m later)
   unfolding parsePayloadFieldLite
@@ -131,11 +132,11 @@ module _ (c : Setting) where
 
   optional-typedef : (cond : Part) (v : ℕ) (id type : Part) (e : EnumOf) → Named cond → Named id → Named type
       → Within plainField (optionalTypedef c cond v id type e)
-  optional-typedef cond v id type (enumIs w isOpen isComplete) g h k =
+  optional-typedef cond v id type (EnumOf.Enum w isOpen isComplete) g h k =
       pick-within plainField isOpen _ _
-      (optional-open (member c id) (member-short id h) (written c cond) v g (c .endianness) w (written c type) k)
-      (optional-closed (member c id) (member-short id h) (written c cond) v g (c .endianness) w (written c type) k)
-  optional-typedef cond v id type noEnum g h k = optional-nested (member c id) (member-short id h) (written c cond) v (written c type) g k
+      (optional-open (member c id) (member-short id h) (written c cond) v g (c .options .endianness) w (written c type) k)
+      (optional-closed (member c id) (member-short id h) (written c cond) v g (c .options .endianness) w (written c type) k)
+  optional-typedef cond v id type EnumOf.None g h k = optional-nested (member c id) (member-short id h) (written c cond) v (written c type) g k
 
   -- ---- arrays
 
@@ -144,10 +145,10 @@ module _ (c : Setting) where
   elem-short MaybeNumber.None MaybePart.None h = omega arith
   elem-short MaybeNumber.None (MaybePart.Some type) h = by (enumOf (c .source) (c .scope) type)
     where
-      by : (e : EnumOf) → ElemShort (typedElem (c .endianness) (written c type) e)
-      by (enumIs w true f) = h
-      by (enumIs w false f) = h
-      by noEnum = h
+      by : (e : EnumOf) → ElemShort (typedElem (c .options .endianness) (written c type) e)
+      by (EnumOf.Enum w true f) = h
+      by (EnumOf.Enum w false f) = h
+      by EnumOf.None = h
 
   type-short : (type : MaybePart) → MaybeIs Named type → length (typeName c type) ≤ 32
   type-short MaybePart.None h = omega arith
@@ -286,7 +287,7 @@ module _ (c : Setting) where
   optional-fits cond v (FieldDesc.Reserved width) padded g h = omega arith
   optional-fits cond v (FieldDesc.Array id width type modifier size) padded g h = omega arith
   optional-fits cond v (FieldDesc.Scalar id width) padded g h =
-      wider (optional-scalar (member c id) (member-short id h) (written c cond) v g (c .endianness) width) (omega (arith, plain-most))
+      wider (optional-scalar (member c id) (member-short id h) (written c cond) v g (c .options .endianness) width) (omega (arith, plain-most))
   optional-fits cond v (FieldDesc.Flag id) padded g h = omega arith
   optional-fits cond v (FieldDesc.Typedef id type) padded g h =
       wider (optional-typedef cond v id type (enumOf (c .source) (c .scope) type) g (h .0) (h .1)) (omega (arith, plain-most))

@@ -26,7 +26,7 @@ use Rattle.definitions.specs.declared.ElementSize.{ElementSize}
 use Rattle.definitions.specs.declared.Refusal.{Refusal}
 use Rattle.definitions.specs.declared.Verdict.{Verdict}
 use Rattle.lengths.specs.Shares.{mostBytes, plainField, bitField, modifierLine, shape, paddedBytes, shareBy, shares, isElementSize, mostOf}
-use Rattle.lengths.proofs.Booleans.{impossible, neither}
+use Rattle.lengths.proofs.Booleans.{impossible, neither, refuse-next}
 use Rattle.lengths.proofs.Names.{FieldsAre, DeclarationsAre, RecordOk, ShortName, names-short}
 use Rattle.lengths.proofs.Steps.{Below, OutcomeFits}
 use Rattle.lengths.proofs.Fields.{AllPlain, lower-fits}
@@ -138,10 +138,6 @@ module _ (s : Text) (h : Head) where
       (refuses-below (large schema) Refusal.TooLarge _ (omega arith)
       (refuses-below (ragged s schema) Refusal.NotWholeBytes _ (omega arith)
       (refuses-below (noTarget s h schema) Refusal.NoTarget Verdict.Pass (omega arith) tt))))))
-
-  refuse-next : (b : Bool) (why : Refusal) (next : Verdict) → refuseIf b why next ≡ Verdict.Pass → (b ≡ false) × (next ≡ Verdict.Pass)
-  refuse-next true why next e = impossible (cc)
-  refuse-next false why next e = (refl, e)
 
   passes : (ds : List Declaration) (schema : Schema) → verdict s h ds schema ≡ Verdict.Pass → (tooMany ds ≡ false) × (outOfRange ds ≡ false)
   unfolding verdict

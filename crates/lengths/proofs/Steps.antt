@@ -8,11 +8,11 @@ use native.Mathlib.Omega.{arith}
 use lib.Dec.{ltb, eqb}
 use lib.ListN.{length, length-append}
 use borrow.Author.Tests.{ltb-false}
-use Rattle.definitions.specs.Sizes.{Annotated}
+use Rattle.definitions.specs.Sizes.{Annotated, staticWidth}
 use Rattle.definitions.specs.Refusals.{number}
 use Rattle.definitions.specs.Lines.{render}
 use Rattle.definitions.specs.Blocks.{Bit, Chunk, widths, Block, program}
-use Rattle.definitions.specs.FieldParser.{Setting, FieldParser, Step, go, stop, andThen, flushed, checkCode, kindOf, staticWidth, bitOf, openChunk, closeChunk, parseBitField, Emit, appends, silent, refuses, emitted, Outcome, refused, accepted}
+use Rattle.definitions.specs.FieldParser.{Setting, FieldParser, Step, go, stop, andThen, flushed, checkCode, kindOf, bitOf, openChunk, closeChunk, parseBitField, Emit, appends, silent, refuses, emitted, Outcome, refused, accepted}
 use Rattle.definitions.specs.declared.Refusal.{Refusal}
 use Rattle.lengths.specs.Shares.{bitField}
 use Rattle.lengths.proofs.Others.{Within}
@@ -109,7 +109,7 @@ check-fits c n p g = by (p .uncheckedCode) refl (p .chunk)
           used = g .used + bitField * bitsIn (p .uncheckedCode);
           code =
               fit-snoc (g .used) (bitField * bitsIn (p .uncheckedCode)) (p .code) _ (g .code)
-              (checked-short (c .endianness) (p .offset) (p .uncheckedCode) (g .pending) some);
+              (checked-short (c .options .endianness) (p .offset) (p .uncheckedCode) (g .pending) some);
           room = omega (arith, g .room);
           pending = tt;
           opened = g .opened;
@@ -128,7 +128,7 @@ short-more : (m n : ℕ) (bs : List Bit) → m ≤ n → AllShort m bs → AllSh
 short-more m n [] e h = tt
 short-more m n (b ∷ bs) e h = (record { kind = h .0 .kind; place = omega (arith, e, h .0 .place) }, short-more m n bs e (h .1))
 
-widths-snoc : (bs : List Bit) (b : Bit) → widths (bs ++ (b ∷ [])) ≡ widths bs + b .width
+pub widths-snoc : (bs : List Bit) (b : Bit) → widths (bs ++ (b ∷ [])) ≡ widths bs + b .width
 widths-snoc [] b = omega arith
 widths-snoc (d ∷ bs) b = omega (arith, widths-snoc bs b)
 

@@ -29,7 +29,8 @@ module _ (id type : Text) (e : ElementSize) (n : ArraySize) {l l₁ : Text} {i r
 
 module _ (id type : Text) (n : ArraySize) where
   module _ (es : ℕ) where
-    pub lite-static-count : (k : ℕ) {l l₁ : Text} {i r : ℕ} → n ≡ ArraySize.StaticCount k → Put l i (stmtsBytes (takenStmts id (Amount.Of (Term.Literal (es * k))))) r l₁
+    pub lite-static-count : (k : ℕ) {l l₁ : Text} {i r : ℕ} → n ≡ ArraySize.StaticCount k
+        → Put l i (stmtsBytes (takenStmts id (Amount.Of (Term.Literal (es * k))))) r l₁
         → Put l i (liteText id type (ElementSize.Static es) n) r l₁
     unfolding liteText
     lite-static-count k h p = lite-shape id type (ElementSize.Static es) n (ArraySize.StaticCount k) h p
@@ -40,7 +41,8 @@ module _ (id type : Text) (n : ArraySize) where
     unfolding liteText
     lite-static-counted h p = lite-shape id type (ElementSize.Static es) n ArraySize.DynamicCount h p
 
-    pub lite-static-sized : {l l₁ l₂ l₃ : Text} {i r₁ r₂ r₃ : ℕ} → n ≡ ArraySize.DynamicSize → Put l i (stmtBytes (checkStmt Arrays.Lite id (Amount.Of Term.Size))) r₁ l₁
+    pub lite-static-sized : {l l₁ l₂ l₃ : Text} {i r₁ r₂ r₃ : ℕ} → n ≡ ArraySize.DynamicSize
+        → Put l i (stmtBytes (checkStmt Arrays.Lite id (Amount.Of Term.Size))) r₁ l₁
         → Put l₁ r₁ (stmtBytes (raggedTest Arrays.Lite id Term.Size (Term.Literal es))) r₂ l₂
         → Put l₂ r₂ (stmtsBytes (cutStmts id (Amount.Of Term.Size))) r₃ l₃
         → Put l i (liteText id type (ElementSize.Static es) n) r₃ l₃
@@ -50,7 +52,8 @@ module _ (id type : Text) (n : ArraySize) where
         (first (checkStmt Arrays.Lite id (Amount.Of Term.Size)) (raggedTest Arrays.Lite id Term.Size (Term.Literal es) ∷ cutStmts id (Amount.Of Term.Size)) p
         (first (raggedTest Arrays.Lite id Term.Size (Term.Literal es)) (cutStmts id (Amount.Of Term.Size)) q t))
 
-    pub lite-static-rest : {l l₁ l₂ : Text} {i r₁ r₂ : ℕ} → n ≡ ArraySize.Unknown → Put l i (stmtBytes (raggedTest Arrays.Lite id Term.Rest (Term.Literal es))) r₁ l₁
+    pub lite-static-rest : {l l₁ l₂ : Text} {i r₁ r₂ : ℕ} → n ≡ ArraySize.Unknown
+        → Put l i (stmtBytes (raggedTest Arrays.Lite id Term.Rest (Term.Literal es))) r₁ l₁
         → Put l₁ r₁ (stmtsBytes (wholeStmts id)) r₂ l₂
         → Put l i (liteText id type (ElementSize.Static es) n) r₂ l₂
     unfolding liteText
@@ -73,7 +76,8 @@ module _ (id type : Text) (n : ArraySize) where
       lite-shape id type ElementSize.Dynamic n ArraySize.DynamicCount h
       (first (zeroTest id) (takenStmts id (Amount.Product Term.ElementSize Term.Count)) p q)
 
-  pub lite-dynamic-sized : {l l₁ l₂ l₃ : Text} {i r₁ r₂ r₃ : ℕ} → n ≡ ArraySize.DynamicSize → Put l i (stmtBytes (checkStmt Arrays.Lite id (Amount.Of Term.Size))) r₁ l₁
+  pub lite-dynamic-sized : {l l₁ l₂ l₃ : Text} {i r₁ r₂ r₃ : ℕ} → n ≡ ArraySize.DynamicSize
+      → Put l i (stmtBytes (checkStmt Arrays.Lite id (Amount.Of Term.Size))) r₁ l₁
       → Put l₁ r₁ (stmtBytes (raggedOrZeroTest Arrays.Lite id Term.Size)) r₂ l₂
       → Put l₂ r₂ (stmtsBytes (cutStmts id (Amount.Of Term.Size))) r₃ l₃
       → Put l i (liteText id type ElementSize.Dynamic n) r₃ l₃

@@ -30,7 +30,10 @@ module _ (id : Text) where
       → Put l i (text "if (" ++ (named Arrays.Lite id (text "_element_size_") ++ text " == 0) {\n    return false;\n}\n")) r l₁
       → Put l i (stmtBytes (zeroTest id)) r l₁
   unfolding stmtBytes
-  zero-test p = like (ap (λ (z : Text). text "if (" ++ (named Arrays.Lite id (text "_element_size_") ++ (text " == " ++ (z ++ text ") {\n    return false;\n}\n")))) zero-text) p
+  zero-test p =
+      like
+      (ap (λ (z : Text). text "if (" ++ (named Arrays.Lite id (text "_element_size_") ++ (text " == " ++ (z ++ text ") {\n    return false;\n}\n")))) zero-text)
+      p
 
   module _ (a : Amount) where
     pub cut-lines : {l l₁ l₂ l₃ : Text} {i r₁ r₂ r₃ : ℕ} → Put l i (named Arrays.Lite id (text "_")) r₁ l₁

@@ -97,7 +97,9 @@ fn put_static_lite(
     array_size: ArraySize,
 ) -> usize
     requires { ⌜ ProductFits (ElementSize.Static «element_size») «array_size» ⌝ }
-    ensures { λ r. ⌜ Put (now (out .entry)) at (liteText (now (id .entry)) (now («type_id» .entry)) (ElementSize.Static «element_size») «array_size») r (now (out .exit)) ⌝ }
+    ensures { λ r. ⌜ Put (now (out .entry)) at
+        (liteText (now (id .entry)) (now («type_id» .entry)) (ElementSize.Static «element_size») «array_size»)
+        r (now (out .exit)) ⌝ }
 {
     match array_size {
         ArraySize::StaticCount(count) => {

@@ -1,80 +1,123 @@
--- The two passes over the target's fields: what the first one says of the lines' length, and what the second one leaves, comes to the outcome's answer.
+-- The two passes over the target's plan: what the first one says of the lines' length, and what the second one leaves, comes to the answer for what the
+-- plan tells; and that is the answer for the outcome of the target's fields.
 -- Assumes nothing.
-use Prim.Native.Nat.{ℕ, _+_, _*_, _^_, _≤_, _<_}
-use mathlib.Core.List.{List, _++_}
-use mathlib.Core.Path.{_≡_, refl, sym, ap, _∙_}
+use Prim.Native.Nat.{ℕ, _*_, _^_, _≤_, _<_}
+use mathlib.Core.List.{List, [], _++_}
+use mathlib.Core.Path.{_≡_, refl, sym, ap, _∙_, subst}
 use native.Mathlib.Nat.{zero-add}
 use native.Mathlib.Omega.{arith}
 use borrow.Author.Tests.{le-leb, lt-leb}
 use lib.ListN.{length, drop}
-use lib.Seq.{sets, sets-eq}
+use lib.Seq.{sets-eq}
 use Rattle.definitions.specs.Bytes.{Text}
 use Rattle.definitions.specs.Refusals.{number}
 use Rattle.definitions.specs.Lines.{render}
 use Rattle.definitions.specs.Blocks.{program}
-use Rattle.definitions.specs.Sizes.{Annotated}
-use Rattle.definitions.specs.FieldParser.{Setting, Outcome, refused, accepted, lowerFields}
-use Rattle.definitions.specs.Answer.{lowered, fitted}
+use Rattle.definitions.specs.Sizes.{Annotated, annotateFields}
+use Rattle.definitions.specs.FieldParser.{Setting, Outcome, refused, accepted, checkCode, parseAll, lowerFields}
+use Rattle.definitions.specs.Answer.{turnedBack, lowered, fitted}
+use Rattle.definitions.specs.declared.Options.{Options}
+use Rattle.definitions.specs.declared.Part.{Part}
 use Rattle.definitions.specs.declared.Refusal.{Refusal}
 use Rattle.definitions.specs.declared.Verdict.{Verdict}
+use Rattle.text.specs.Put.{Put}
 use Rattle.stream.specs.Stream.{rendered, fresh}
-use Rattle.parser.specs.Driver.{spelt, LowersTo, Lowers}
+use Rattle.tables.specs.Tables.{fieldsFrom, Tables}
+use Rattle.emits.specs.Target.{settingAt, restAt, Fine}
+use Rattle.plans.specs.Planned.{Planned}
+use Rattle.plans.specs.Told.{Told, tell, resultBy, resultOf}
+use Rattle.plans.specs.Plans.{plansFrom}
+use Rattle.plans.specs.declared.PlanAt.{PlanAt}
+use Rattle.plans.proofs.Tells.{told}
+use Rattle.planner.specs.Entries.{Entries}
+use Rattle.planner.proofs.Stands.{is-plan}
+use Rattle.parser.specs.Driver.{TellsBy, Tells}
 use Rattle.parser.specs.declared.Lowered.{Lowered}
-use Rattle.lowering.specs.Steps.{Answers}
-
--- ---- the answer for an outcome
+use Rattle.lowering.specs.Steps.{Answers, loweredBy, AnswersTold}
 
 -- a refusal: no byte is changed
 pub refuses-all : (why : Refusal) (out : Text) {r : ℕ} → r ≡ number why * 2 ^ 32 → Answers (refused why) out r out
 unfolding lowered
 refuses-all why out e = record { number-is = omega (arith, e); buffer-is = refl }
 
-module _ (t out : Text) where
-  too-long : length out < length t → {o : Outcome} → lowered (length out) o ≡ fitted (length out) t → {r : ℕ} → r ≡ number Refusal.NoRoom * 2 ^ 32 → Answers o out r out
-  unfolding fitted
-  too-long w eo {r} e = record {
-    number-is = rw (eo, fitted, lt-leb (length t) (length out) w) (omega (arith, e));
-    buffer-is = rw (eo, fitted, lt-leb (length t) (length out) w);
-  }
+-- ---- what the plan tells, by the first pass, into a buffer of no consequence
 
-  fits : length t ≤ length out → {o : Outcome} → lowered (length out) o ≡ fitted (length out) t → {r : ℕ} → r ≡ length t → {left : Text} → left ≡ sets out 0 t
-      → Answers o out r left
-  unfolding fitted
-  fits w eo {r} e {left} el = record {
-    number-is = rw (eo, fitted, le-leb (length t) (length out) w) (omega (arith, e));
-    buffer-is = rw (eo, fitted, le-leb (length t) (length out) w) (el ∙ sets-eq t out 0 (omega arith) ∙ ap (λ (k : ℕ). t ++ drop k out) (zero-add (length t)));
-  }
-
--- ---- by the first pass, into a buffer of no consequence
-
-module _ (c : Setting) (xs : List Annotated) (buf left out : Text) (l : Lowered) (st : Lowers c xs buf 0 l left) where
-  pub pass-refused : {why : Refusal} → l .verdict ≡ Verdict.Refuse why → {r : ℕ} → r ≡ number why * 2 ^ 32 → Answers (lowerFields c xs) out r out
-  pass-refused {why} hv {r} e = by (lowerFields c xs) st
+module _ (d : Told) {buf left : Text} {l : Lowered} (st : Tells d buf 0 l left) where
+  pub pass-refused : {why : Refusal} → l .verdict ≡ Verdict.Refuse why → {out : Text} {r : ℕ} → r ≡ number why * 2 ^ 32 → AnswersTold d out r out
+  pass-refused {why} hv {out} {r} e = record { number-is = rw (said) (omega (arith, e)); buffer-is = rw (said) }
     where
-      by : (o : Outcome) → LowersTo (rendered o) (spelt c fresh xs) buf 0 l left → Answers o out r out
-      by (refused w) h =
-          let hw : l .verdict ≡ Verdict.Refuse w = h .verdict-is in
-          let q : w ≡ why = cc in
-          refuses-all w out (e ∙ ap (λ (x : Refusal). number x * 2 ^ 32) (sym q))
-      by (accepted bs) h = absurd (let z : _≡_ {A = ℕ} 0 1 = cc (h .verdict-is) in omega arith)
+      said : d .verdict ≡ Verdict.Refuse why
+      said = sym (st .verdict-is) ∙ hv
 
   module _ (hv : l .verdict ≡ Verdict.Pass) where
-    pub pass-no-room : length out < l .at → {r : ℕ} → r ≡ number Refusal.NoRoom * 2 ^ 32 → Answers (lowerFields c xs) out r out
-    unfolding lowered
-    pass-no-room w {r} e = by (lowerFields c xs) st
-      where
-        by : (o : Outcome) → LowersTo (rendered o) (spelt c fresh xs) buf 0 l left → Answers o out r out
-        by (refused why) h = absurd (let z : _≡_ {A = ℕ} 0 1 = cc (h .verdict-is) in omega arith)
-        by (accepted bs) h = too-long (render (program bs)) out (omega (arith, w, h .wrote .next)) refl e
+    said : d .verdict ≡ Verdict.Pass
+    said = sym (st .verdict-is) ∙ hv
 
-    pub pass-written : l .at ≤ length out → (l₂ : Lowered) (left₂ : Text) → Lowers c xs out 0 l₂ left₂
-        → Answers (lowerFields c xs) out (l₂ .at) left₂
-    unfolding lowered
-    pass-written w l₂ left₂ su = by (lowerFields c xs) st su
+    wrote : {b x : Text} {q : Lowered} → Tells d b 0 q x → Put b 0 (d .lines) (q .at) x
+    wrote {b} {x} {q} su = subst (λ (v : Verdict). TellsBy v (d .lines) b 0 q x) said (su .wrote)
+
+    pub pass-no-room : {out : Text} → length out < l .at → {r : ℕ} → r ≡ number Refusal.NoRoom * 2 ^ 32 → AnswersTold d out r out
+    unfolding fitted
+    pass-no-room {out} w {r} e = record {
+      number-is = rw (said, fitted, lt-leb (length (d .lines)) (length out) long) (omega (arith, e));
+      buffer-is = rw (said, fitted, lt-leb (length (d .lines)) (length out) long);
+    }
       where
-        by : (o : Outcome) → LowersTo (rendered o) (spelt c fresh xs) buf 0 l left → LowersTo (rendered o) (spelt c fresh xs) out 0 l₂ left₂
-            → Answers o out (l₂ .at) left₂
-        by (refused why) h k = absurd (let z : _≡_ {A = ℕ} 0 1 = cc (h .verdict-is) in omega arith)
-        by (accepted bs) h k =
-            fits (render (program bs)) out (omega (arith, w, h .wrote .next, k .wrote .room)) refl
-            (omega (arith, w, h .wrote .next, k .wrote .next, k .wrote .room)) (k .wrote .written)
+        long : length out < length (d .lines)
+        long = omega (arith, w, wrote st .next)
+
+    pub pass-written : {out : Text} → l .at ≤ length out → {q : Lowered} {x : Text} → Tells d out 0 q x → AnswersTold d out (q .at) x
+    unfolding fitted
+    pass-written {out} w {q} {x} su = record {
+      number-is =
+          rw (said, fitted, le-leb (length (d .lines)) (length out) short)
+          (omega (arith, w, wrote st .next, wrote su .next, wrote su .room));
+      buffer-is =
+          rw (said, fitted, le-leb (length (d .lines)) (length out) short)
+          (wrote su .written ∙ sets-eq (d .lines) out 0 (omega (arith, short)) ∙ ap (λ (k : ℕ). d .lines ++ drop k out) (zero-add (length (d .lines))));
+    }
+      where
+        short : length (d .lines) ≤ length out
+        short = omega (arith, w, wrote st .next, wrote su .room)
+
+-- ---- the outcome of the target's fields
+
+told-lowered : (room : ℕ) (o : Outcome) (v : Verdict) (t : Text) → rendered o ≡ resultBy v t → lowered room o ≡ loweredBy room v t
+unfolding lowered
+told-lowered room (refused w) (Verdict.Refuse why) t e = let q : w ≡ why = cc in ap turnedBack q
+told-lowered room (refused w) Verdict.Pass t e = absurd (let z : _≡_ {A = ℕ} 0 1 = cc in omega arith)
+told-lowered room (accepted bs) (Verdict.Refuse why) t e = absurd (let z : _≡_ {A = ℕ} 0 1 = cc in omega arith)
+told-lowered room (accepted bs) Verdict.Pass t e = let q : render (program bs) ≡ t = cc in ap (fitted room) q
+
+told-answers : (o : Outcome) (d : Told) → rendered o ≡ resultOf d → {out left : Text} {r : ℕ} → AnswersTold d out r left → Answers o out r left
+told-answers o d e {out} {left} {r} a = record {
+  number-is = rw (told-lowered (length out) o (d .verdict) (d .lines) e) (a .number-is);
+  buffer-is = rw (told-lowered (length out) o (d .verdict) (d .lines) e) (a .buffer-is);
+}
+
+module _ (t : Tables) (i n : ℕ) (o : Options) where
+  pub plan-answers : Fine t i n → {plan : List PlanAt} → Entries t i n o plan → {out left : Text} {r : ℕ}
+      → ((bits : Part → ℕ) → AnswersTold (tell (o .endianness) fresh (plansFrom o (t .source) bits plan 0 n)) out r left)
+      → Answers (lowerFields (settingAt t i n o) (restAt t i n 0)) out r left
+  plan-answers fine {plan} entries a =
+      told-answers (lowerFields (settingAt t i n o) (restAt t i n 0)) _
+      (told (settingAt t i n o) (restAt t i n 0)
+      ∙ ap (λ (ps : List Planned). resultOf (tell (o .endianness) fresh ps)) (sym (is-plan fine entries .stands)))
+      (a _)
+
+-- a target without fields
+no-fields : (t : Tables) (i : ℕ) → restAt t i 0 0 ≡ []
+unfolding fieldsFrom annotateFields
+no-fields t i = refl
+
+nothing : (c : Setting) (out : Text) → Answers (lowerFields c []) out 0 out
+unfolding lowerFields parseAll checkCode lowered fitted
+nothing c out = record {
+  number-is = rw (fitted, le-leb 0 (length out) (omega arith));
+  buffer-is = rw (fitted, le-leb 0 (length out) (omega arith));
+}
+
+pub none-answers : (t : Tables) (i n : ℕ) (o : Options) → n ≡ 0 → {out : Text} → Answers (lowerFields (settingAt t i n o) (restAt t i n 0)) out 0 out
+none-answers t i n o e {out} =
+    subst (λ (m : ℕ). Answers (lowerFields (settingAt t i m o) (restAt t i m 0)) out 0 out) (sym e)
+    (subst (λ (xs : List Annotated). Answers (lowerFields (settingAt t i 0 o) xs) out 0 out) (sym (no-fields t i)) (nothing (settingAt t i 0 o) out))

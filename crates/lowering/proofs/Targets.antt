@@ -40,7 +40,10 @@ unfolding checkSizes behindSchema
 chosen s h schema i = by (large schema) (ragged s schema) (targetFrom s (h .target) 0 schema)
   where
     by : (b d : Bool) (f : Found)
-        → _≡_ {A = Sizing} (elim b [ true ↦ Sizing.Refuse Refusal.TooLarge | false ↦ elim d [ true ↦ Sizing.Refuse Refusal.NotWholeBytes | false ↦ targetOr f ] ]) (Sizing.Target i)
+        → _≡_ {A = Sizing} (elim b [
+          | true ↦ Sizing.Refuse Refusal.TooLarge
+          | false ↦ elim d [ true ↦ Sizing.Refuse Refusal.NotWholeBytes | false ↦ targetOr f ]
+        ]) (Sizing.Target i)
         → (b ≡ false) × (f ≡ Found.At i)
     by true d f k = absurd (let z : _≡_ {A = ℕ} 0 1 = cc in omega arith)
     by false true f k = absurd (let z : _≡_ {A = ℕ} 0 1 = cc in omega arith)
@@ -137,20 +140,20 @@ module _ (s : Text) (h : Head) (before v f : List ℕ) (n : ℕ) (rows : List �
           ∙ or-right (any largeField (entry .fields) || largeRow (entry .row)) (tooLarge (staticSum (entry .fields))) not-large;
     })
 
-    target-lowered : lowerFields (settingAt tables i count (h .endianness) (h .arrays)) (restAt tables i count 0) ≡ lowerSized s h schema
+    target-lowered : lowerFields (settingAt tables i count (h .options)) (restAt tables i count 0) ≡ lowerSized s h schema
     target-lowered =
-        ap (lowerFields (settingAt tables i count (h .endianness) (h .arrays))) rest-all
+        ap (lowerFields (settingAt tables i count (h .options))) rest-all
         ∙ sym (ap (λ (r : Found). onFound r (refused Refusal.NoTarget) (λ k. lowerTarget s h (entryIn s rows v f k))) found)
         ∙ sym (lower-target s h rows v f 0 n)
         ∙ ap (lowerIn s h) same
         ∙ sym (sized-target s h schema i (sym (k .answer) ∙ hx))
 
     pub target-answers : {m : ℕ} → m ≡ count → {out left : Text} {r : ℕ}
-        → Answers (lowerFields (settingAt tables i m (h .endianness) (h .arrays)) (restAt tables i m 0)) out r left
+        → Answers (lowerFields (settingAt tables i m (h .options)) (restAt tables i m 0)) out r left
         → Answers (lowerSized s h schema) out r left
     target-answers {m} e {out} {left} {r} a =
         subst (λ (o : Outcome). Answers o out r left) target-lowered
-        (subst (λ (m : ℕ). Answers (lowerFields (settingAt tables i m (h .endianness) (h .arrays)) (restAt tables i m 0)) out r left) e a)
+        (subst (λ (m : ℕ). Answers (lowerFields (settingAt tables i m (h .options)) (restAt tables i m 0)) out r left) e a)
 
     pub target-ready : Few before n → {m : ℕ} → m ≡ count → Ready tables i m
     target-ready few e = record {

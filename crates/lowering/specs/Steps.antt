@@ -7,8 +7,10 @@ use lib.ListN.{length}
 use Rattle.definitions.specs.Bytes.{Text}
 use Rattle.definitions.specs.Sizes.{Schema}
 use Rattle.definitions.specs.FieldParser.{Outcome, refused}
-use Rattle.definitions.specs.Answer.{lowerIn, lowered, word, bufferAfter}
+use Rattle.definitions.specs.Answer.{lowerIn, Lowered, turnedBack, fitted, lowered, word, bufferAfter}
 use Rattle.definitions.specs.declared.Head.{Head}
+use Rattle.definitions.specs.declared.Verdict.{Verdict}
+use Rattle.plans.specs.Told.{Told}
 use Rattle.sizes.specs.Answers.{checkSizes}
 use Rattle.sizes.specs.declared.Sizing.{Sizing}
 use Rattle.tables.specs.Tables.{countHere, Tables}
@@ -18,6 +20,15 @@ use Rattle.emits.specs.Target.{Fine}
 pub record Answers (o : Outcome) (out : Text) (r : ℕ) (left : Text) : Type 0 where
   pub number-is : r ≡ word (lowered (length out) o)
   pub buffer-is : left ≡ bufferAfter (lowered (length out) o) out
+
+-- the same for what a plan tells
+abbrev pub loweredBy : ℕ → Verdict → Text → Lowered
+loweredBy room Verdict.Pass lines = fitted room lines
+loweredBy room (Verdict.Refuse why) lines = turnedBack why
+
+pub record AnswersTold (told : Told) (out : Text) (r : ℕ) (left : Text) : Type 0 where
+  pub number-is : r ≡ word (loweredBy (length out) (told .verdict) (told .lines))
+  pub buffer-is : left ≡ bufferAfter (loweredBy (length out) (told .verdict) (told .lines)) out
 
 -- 7 to 9, and then the target
 unfoldable pub lowerSized : Text → Head → Schema → Outcome

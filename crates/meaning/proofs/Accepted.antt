@@ -10,10 +10,11 @@ use native.Mathlib.Omega.{arith}
 use lib.Dec.{ltb, eqb}
 use borrow.Author.Tests.{ltb-false, eqb-true, eqb-false, not-false}
 use Rattle.definitions.specs.Bytes.{Text, text, pick}
-use Rattle.definitions.specs.Sizes.{Row, Annotated, totalSize, lookup, EnumOf, enumIs, noEnum, descEnum, enumOf, hasPayloadSize, anyReference, isElementSize, typedElement, elementSize}
+use Rattle.definitions.specs.Sizes.{Row, Annotated, totalSize, lookup, descEnum, enumOf, hasPayloadSize, anyReference, isElementSize, typedElement, elementSize, staticWidth}
 use Rattle.definitions.specs.Refusals.{raggedSize, notWhole, raggedArray, raggedDesc, raggedField, isOptional}
 use Rattle.definitions.specs.Blocks.{span, Kind, Bit, Chunk, chunkName, Block, Array, widths, prefix, named}
-use Rattle.definitions.specs.FieldParser.{Setting, FieldParser, Step, go, stop, andThen, new, append, flushed, checkCode, written, member, fieldName, isCondFor, enumKind, kindOf, staticWidth, bitOf, openChunk, closeChunk, parseBitField, Emit, appends, silent, refuses, onBoundary, onTrailing, getTrailingSize, typedefBySize, parseTypedefField, optionalTypedef, parseOptionalField, payloadBySize, parsePayloadFieldLite, typedElem, elemOf, withPadding, parseArrayField, parseOther, isBit, parseUnchecked, emitted, parse, parseAll, done, Outcome, refused, accepted, codeOf, lowerFields}
+use Rattle.definitions.specs.FieldParser.{Setting, FieldParser, Step, go, stop, andThen, new, append, flushed, checkCode, written, member, fieldName, isCondFor, enumKind, kindOf, bitOf, openChunk, closeChunk, parseBitField, Emit, appends, silent, refuses, onBoundary, onTrailing, getTrailingSize, typedefBySize, parseTypedefField, optionalTypedef, parseOptionalField, payloadBySize, parsePayloadFieldLite, typedElem, elemOf, withPadding, parseArrayField, parseOther, isBit, parseUnchecked, emitted, parse, parseAll, done, Outcome, refused, accepted, codeOf, lowerFields}
+use Rattle.definitions.specs.declared.EnumOf.{EnumOf}
 use Rattle.definitions.specs.declared.Part.{Part}
 use Rattle.definitions.specs.declared.MaybePart.{MaybePart}
 use Rattle.definitions.specs.declared.MaybeNumber.{MaybeNumber}
@@ -26,19 +27,21 @@ use Rattle.definitions.specs.declared.Size.{Size}
 use Rattle.definitions.specs.declared.Refusal.{Refusal}
 use Rattle.definitions.specs.declared.ElementSize.{ElementSize}
 use Rattle.definitions.specs.Answer.{answer}
+use Rattle.lengths.proofs.Booleans.{neither}
+use Rattle.lengths.proofs.Steps.{widths-snoc}
 use Rattle.meaning.specs.Runs.{setting}
 use Rattle.meaning.proofs.Items.{offsets}
 use Rattle.meaning.proofs.Wellformed.{Apart, ElemOk, Spares, SparesAll, Shifted, ChunkOk, ChunksOk, BlockOk, BlocksOk, Plain}
 use Rattle.meaning.proofs.ChunkNames.{Free, free-ends, raw-free, DescFree}
 use Rattle.meaning.proofs.Names.{apart-ends}
-use Rattle.meaning.proofs.Entries.{or-left, or-right, RowsOk, FoundOk, lookup-ok, Fits, AllFit, has-grounds}
+use Rattle.meaning.proofs.Entries.{RowsOk, FoundOk, lookup-ok, Fits, AllFit, has-grounds}
 
 -- ---- the elements of an array
 
 whole : (n : ℕ) → raggedSize (Size.Static n) ≡ false → 0 < n / 8
 whole n e =
-    let a : n ≡ 0 → ⊥ = eqb-false n 0 (or-left (eqb n 0) (notWhole n) e) in
-    let b : n % 8 ≡ 0 = eqb-true (n % 8) 0 (not-false (eqb (n % 8) 0) (or-right (eqb n 0) (notWhole n) e)) in
+    let a : n ≡ 0 → ⊥ = eqb-false n 0 (neither (eqb n 0) (notWhole n) e .0) in
+    let b : n % 8 ≡ 0 = eqb-true (n % 8) 0 (not-false (eqb (n % 8) 0) (neither (eqb n 0) (notWhole n) e .1)) in
     nonzero (n / 8) (λ z. a (omega (arith, div-add-mod' n 8, z, b)))
   where
     nonzero : (m : ℕ) → (m ≡ 0 → ⊥) → 0 < m
@@ -49,26 +52,26 @@ whole n e =
 typed-ok : (o : EndiannessValue) (name : Text) (given : Bool) (f : Option Row) → FoundOk f
     → raggedSize (elim f [ some r ↦ totalSize r | none ↦ Size.Unknown ]) ≡ false
     → ElemOk (typedElement (elim f [ some r ↦ totalSize r | none ↦ Size.Unknown ]) given)
-    (typedElem o name (elim f [ some r ↦ descEnum (r .decl .desc) | none ↦ noEnum ]))
+    (typedElem o name (elim f [ some r ↦ descEnum (r .decl .desc) | none ↦ EnumOf.None ]))
 typed-ok o name true none k e = tt
 typed-ok o name false none k e = tt
 typed-ok o name given (some r) k e = by (totalSize r) refl (descEnum (r .decl .desc)) refl e
   where
     by : (z : Size) → totalSize r ≡ z → (d : EnumOf) → descEnum (r .decl .desc) ≡ d → raggedSize z ≡ false
         → ElemOk (typedElement z given) (typedElem o name d)
-    by (Size.Static n) ez (enumIs w true c) ed h =
+    by (Size.Static n) ez (EnumOf.Enum w true c) ed h =
         let q : n ≡ w = static (sym ez ∙ k w true c ed) in
         (whole n h, omega (arith, ap (λ (m : ℕ). m / 8) q))
       where
         static : {a b : ℕ} → Size.Static a ≡ Size.Static b → a ≡ b
         static p = cc
-    by (Size.Static n) ez (enumIs w false c) ed h =
+    by (Size.Static n) ez (EnumOf.Enum w false c) ed h =
         let q : n ≡ w = static (sym ez ∙ k w false c ed) in
         (whole n h, omega (arith, ap (λ (m : ℕ). m / 8) q))
       where
         static : {a b : ℕ} → Size.Static a ≡ Size.Static b → a ≡ b
         static p = cc
-    by (Size.Static n) ez noEnum ed h = (whole n h, omega arith)
+    by (Size.Static n) ez EnumOf.None ed h = (whole n h, omega arith)
     by Size.Dynamic ez d ed h = dynamic given
       where
         dynamic : (g : Bool) → ElemOk (typedElement Size.Dynamic g) (typedElem o name d)
@@ -85,15 +88,11 @@ elem-ok : (c : Setting) → RowsOk (c .scope) → (id : Part) (width : MaybeNumb
     → ElemOk (elementSize (c .source) (c .scope) (c .fields) id width type) (elemOf c width type)
 elem-ok c h id (MaybeNumber.Some w) type e = (whole w e, omega arith)
 elem-ok c h id MaybeNumber.None (MaybePart.Some type) e =
-    typed-ok (c .endianness) (written c type) (anyReference (isElementSize (c .source) id) (c .fields)) (lookup (c .source) (c .scope) type)
+    typed-ok (c .options .endianness) (written c type) (anyReference (isElementSize (c .source) id) (c .fields)) (lookup (c .source) (c .scope) type)
     (lookup-ok (c .source) (c .scope) type h) e
 elem-ok c h id MaybeNumber.None MaybePart.None e = tt
 
 -- ---- the parser's state
-
-widths-snoc : (bs : List Bit) (b : Bit) → widths (bs ++ (b ∷ [])) ≡ widths bs + b .width
-widths-snoc [] b = omega arith
-widths-snoc (d ∷ bs) b = omega (arith, widths-snoc bs b)
 
 offsets-snoc : (cs : List Chunk) (c : Chunk) → offsets (cs ++ (c ∷ [])) ≡ offsets cs + widths (c .fields) / 8
 offsets-snoc [] c = omega arith
@@ -138,7 +137,7 @@ flushed-good c p (d ∷ ds) [] g =
       shift-is = g .shift-is;
       offset-is = refl;
       blocks =
-          blocks-snoc (p .code) (Block.checked (c .endianness) (p .offset) (p .uncheckedCode)) (g .blocks)
+          blocks-snoc (p .code) (Block.checked (c .options .endianness) (p .offset) (p .uncheckedCode)) (g .blocks)
           (record { number = g .offset-is; chunks = g .pending });
       shifts = g .shifts;
       spares = g .spares;
@@ -198,7 +197,7 @@ spares-pick x true k l h m = h
 spares-pick x false k l h m = m
 
 member-free : (c : Setting) (id : Part) → Free (member c id)
-member-free c id = free-ends (prefix (c .arrays)) (written c id) 95 (omega arith)
+member-free c id = free-ends (prefix (c .options .arrays)) (written c id) 95 (omega arith)
 
 -- a name that ends in `_`
 named-free : (m : Arrays) (id end : Text) → Free (named m id (end ++ text "_"))
@@ -206,18 +205,18 @@ named-free m id end nr =
     subst (λ (t : Text). Apart (prefix m ++ t) (chunkName nr)) (append-assoc id end (text "_")) (free-ends (prefix m) (id ++ end) 95 (omega arith) nr)
 
 enum-spares : (c : Setting) (id type : Part) (e : EnumOf) (nr : ℕ) → Spares (chunkName nr) (enumKind (member c id) (written c type) e)
-enum-spares c id type (enumIs w o f) nr =
+enum-spares c id type (EnumOf.Enum w o f) nr =
     spares-pick (chunkName nr) (o || f) (Kind.openEnum (member c id) (written c type)) (Kind.closedEnum (member c id) (written c type))
     (member-free c id nr) (member-free c id nr, raw-free nr)
-enum-spares c id type noEnum nr = member-free c id nr
+enum-spares c id type EnumOf.None nr = member-free c id nr
 
 kind-spares : (c : Setting) (d : FieldDesc) → DescFree (c .source) d → (nr : ℕ) → Spares (chunkName nr) (kindOf c d)
 unfolding kindOf
 kind-spares c (FieldDesc.Checksum of) h nr = tt
 kind-spares c (FieldDesc.Padding size) h nr = tt
-kind-spares c (FieldDesc.Size of width) h nr = named-free (c .arrays) (fieldName c of) (text "_size") nr
-kind-spares c (FieldDesc.Count of width) h nr = named-free (c .arrays) (written c of) (text "_count") nr
-kind-spares c (FieldDesc.ElementSize of width) h nr = named-free (c .arrays) (fieldName c of) (text "_element_size") nr
+kind-spares c (FieldDesc.Size of width) h nr = named-free (c .options .arrays) (fieldName c of) (text "_size") nr
+kind-spares c (FieldDesc.Count of width) h nr = named-free (c .options .arrays) (written c of) (text "_count") nr
+kind-spares c (FieldDesc.ElementSize of width) h nr = named-free (c .options .arrays) (fieldName c of) (text "_element_size") nr
 kind-spares c FieldDesc.Body h nr = tt
 kind-spares c (FieldDesc.Payload modifier) h nr = tt
 kind-spares c (FieldDesc.FixedScalar width value) h nr = tt
@@ -276,8 +275,8 @@ typedef-ok c id type later Size.Unknown =
     trailing-ok (getTrailingSize later) _ (λ n. pick-ok (ltb 0 n) _ _ (tt, (refl, λ o. tt)) (tt, (refl, λ o. tt)))
 
 enum-ok : (c : Setting) (cond : Part) (v : ℕ) (id type : Part) (e : EnumOf) → Other (optionalTypedef c cond v id type e)
-enum-ok c cond v id type (enumIs w isOpen isComplete) = pick-ok isOpen _ _ (tt, (refl, λ o. tt)) (tt, (refl, λ o. tt))
-enum-ok c cond v id type noEnum = (tt, (refl, λ o. tt))
+enum-ok c cond v id type (EnumOf.Enum w isOpen isComplete) = pick-ok isOpen _ _ (tt, (refl, λ o. tt)) (tt, (refl, λ o. tt))
+enum-ok c cond v id type EnumOf.None = (tt, (refl, λ o. tt))
 
 optional-ok : (c : Setting) (cond : Part) (v : ℕ) (d : FieldDesc) → EmitOk (parseOptionalField c cond v d)
 unfolding parseOptionalField
@@ -301,10 +300,10 @@ payload-span Arrays.Lite = apart-ends (text "payload") (text "_") (text "spa") (
 payload-span Arrays.Full = apart-ends (text "output->payload") (text "_") (text "spa") (text "n") refl refl
 
 sized-ok : (c : Setting) (m : Modifier) (later : List Annotated) (b : Bool) → EmitOk (payloadBySize c m later b)
-sized-ok c m later true = (payload-span (c .arrays), (refl, λ o. tt))
+sized-ok c m later true = (payload-span (c .options .arrays), (refl, λ o. tt))
 sized-ok c m later false =
     trailing-ok (getTrailingSize later) _
-    (λ n. pick-ok (ltb 0 n) _ _ (payload-span (c .arrays), (refl, λ o. tt)) (tt, (refl, λ o. tt)))
+    (λ n. pick-ok (ltb 0 n) _ _ (payload-span (c .options .arrays), (refl, λ o. tt)) (tt, (refl, λ o. tt)))
 
 payload-ok : (c : Setting) (shift : ℕ) (m : Modifier) (later : List Annotated) → EmitOk (parsePayloadFieldLite c shift m later)
 unfolding parsePayloadFieldLite

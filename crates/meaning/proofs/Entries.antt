@@ -1,7 +1,7 @@
 -- What an accepted record's target has: its entry of the tables, whose names were found, whose arrays have whole elements, and whose bit fields have the
 -- widths that the record declares. From refusals 3 to 9, entry by entry.
 -- Assumes nothing.
-use mathlib.Core.Bool.{Bool, true, false, _||_}
+use mathlib.Core.Bool.{Bool, true, false}
 use mathlib.Core.List.{List, [], _∷_, _++_}
 use mathlib.Core.Option.{Option, none, some}
 use mathlib.Core.Path.{_≡_, refl, sym, ap, _∙_, subst}
@@ -10,11 +10,12 @@ use native.Mathlib.Nat.{add-zero}
 use borrow.Author.Tests.{not-false}
 use Rattle.definitions.specs.Bytes.{Text, any}
 use Rattle.definitions.specs.Record.{Declaration, RecordRead, recordIs, noRecord, readRecord}
-use Rattle.definitions.specs.Sizes.{Schema, Entry, Row, Annotated, totalSize, lookup, sameName, totalOf, descSize, annotateFields, rowOf, annotateDecl, annotateFrom, newSchema, parentId, EnumOf, enumIs, noEnum, descEnum, enumOf, isEnum, isBitfield}
-use Rattle.definitions.specs.Refusals.{find, isFrame, isEnumDesc, lacks, badName, badType, badNames, unknownFrom, unknownName, refuseIf, verdict, tooMany, duplicateName, outOfRange, large, raggedField, ragged, isTarget}
-use Rattle.definitions.specs.FieldParser.{staticWidth, isBit, Setting, Outcome, refused, accepted}
+use Rattle.definitions.specs.Sizes.{Schema, Entry, Row, Annotated, totalSize, lookup, sameName, totalOf, descSize, annotateFields, rowOf, annotateDecl, annotateFrom, newSchema, parentId, descEnum, enumOf, isEnum, isBitfield, staticWidth}
+use Rattle.definitions.specs.Refusals.{find, isFrame, isEnumDesc, lacks, badName, badType, badNames, unknownFrom, unknownName, verdict, tooMany, duplicateName, outOfRange, large, raggedField, ragged, isTarget}
+use Rattle.definitions.specs.FieldParser.{isBit, Setting, Outcome, refused, accepted}
 use Rattle.definitions.specs.Answer.{settingOf, lowerTarget, lowerIn, lowerRecord, answerRead, wrongLength, answer}
 use Rattle.definitions.specs.Blocks.{Block}
+use Rattle.definitions.specs.declared.EnumOf.{EnumOf}
 use Rattle.definitions.specs.declared.Part.{Part}
 use Rattle.definitions.specs.declared.Head.{Head}
 use Rattle.definitions.specs.declared.FieldDesc.{FieldDesc}
@@ -25,20 +26,12 @@ use Rattle.definitions.specs.declared.DeclDesc.{DeclDesc}
 use Rattle.definitions.specs.declared.Size.{Size}
 use Rattle.definitions.specs.declared.Refusal.{Refusal}
 use Rattle.definitions.specs.declared.Verdict.{Verdict}
+use Rattle.lengths.proofs.Booleans.{impossible, neither, refuse-next}
 use Rattle.meaning.specs.Rule.{enumWidth, declaredWidth, widthOf}
 use Rattle.meaning.specs.Runs.{Target, firstTarget, targetIn, targetOf}
 use Rattle.meaning.proofs.ChunkNames.{DescFree, FieldsFree, DeclarationsFree, RecordFree, record-free}
-use Rattle.meaning.proofs.Impossible.{impossible}
 
 -- ---- tests over lists
-
-pub or-left : (a b : Bool) → (a || b) ≡ false → a ≡ false
-or-left true b e = e
-or-left false b e = refl
-
-pub or-right : (a b : Bool) → (a || b) ≡ false → b ≡ false
-or-right true b e = impossible (cc)
-or-right false b e = e
 
 module _ {A : Type 0} (f : A → Bool) where
   abbrev pub NoneOf : List A → Type 0
@@ -47,12 +40,12 @@ module _ {A : Type 0} (f : A → Bool) where
 
   pub none-of : (xs : List A) → any f xs ≡ false → NoneOf xs
   none-of [] e = tt
-  none-of (x ∷ xs) e = (or-left (f x) (any f xs) e, none-of xs (or-right (f x) (any f xs) e))
+  none-of (x ∷ xs) e = let k = neither (f x) (any f xs) e in (k .0, none-of xs (k .1))
 
 -- ---- rows: an enum's total size is its width
 
 abbrev pub RowOk : Row → Type 0
-RowOk r = (w : ℕ) (o c : Bool) → descEnum (r .decl .desc) ≡ enumIs w o c → totalSize r ≡ Size.Static w
+RowOk r = (w : ℕ) (o c : Bool) → descEnum (r .decl .desc) ≡ EnumOf.Enum w o c → totalSize r ≡ Size.Static w
 
 abbrev pub RowsOk : List Row → Type 0
 RowsOk [] = Unit {0}
@@ -61,15 +54,15 @@ RowsOk (r ∷ rs) = RowOk r × RowsOk rs
 row-ok : (s : Text) (rows : List Row) (d : Decl) (xs : List Annotated) → RowOk (rowOf s rows d xs)
 row-ok s rows d xs = by (d .desc) refl
   where
-    by : (desc : DeclDesc) → d .desc ≡ desc → (w : ℕ) (o c : Bool) → descEnum (d .desc) ≡ enumIs w o c → totalSize (rowOf s rows d xs) ≡ Size.Static w
-    by (DeclDesc.Checksum width) e w o c h = let g : noEnum ≡ enumIs w o c = ap descEnum (sym e) ∙ h in impossible (cc)
-    by (DeclDesc.CustomField width) e w o c h = let g : noEnum ≡ enumIs w o c = ap descEnum (sym e) ∙ h in impossible (cc)
+    by : (desc : DeclDesc) → d .desc ≡ desc → (w : ℕ) (o c : Bool) → descEnum (d .desc) ≡ EnumOf.Enum w o c → totalSize (rowOf s rows d xs) ≡ Size.Static w
+    by (DeclDesc.Checksum width) e w o c h = let g : EnumOf.None ≡ EnumOf.Enum w o c = ap descEnum (sym e) ∙ h in impossible (cc)
+    by (DeclDesc.CustomField width) e w o c h = let g : EnumOf.None ≡ EnumOf.Enum w o c = ap descEnum (sym e) ∙ h in impossible (cc)
     by (DeclDesc.Enum width isOpen isComplete) e w o c h =
-        let g : enumIs width isOpen isComplete ≡ enumIs w o c = ap descEnum (sym e) ∙ h in
+        let g : EnumOf.Enum width isOpen isComplete ≡ EnumOf.Enum w o c = ap descEnum (sym e) ∙ h in
         let q : width ≡ w = cc in
         rw e (ap Size.Static (add-zero (width + 0) ∙ add-zero width ∙ q))
-    by (DeclDesc.Packet parent) e w o c h = let g : noEnum ≡ enumIs w o c = ap descEnum (sym e) ∙ h in impossible (cc)
-    by (DeclDesc.Struct parent) e w o c h = let g : noEnum ≡ enumIs w o c = ap descEnum (sym e) ∙ h in impossible (cc)
+    by (DeclDesc.Packet parent) e w o c h = let g : EnumOf.None ≡ EnumOf.Enum w o c = ap descEnum (sym e) ∙ h in impossible (cc)
+    by (DeclDesc.Struct parent) e w o c h = let g : EnumOf.None ≡ EnumOf.Enum w o c = ap descEnum (sym e) ∙ h in impossible (cc)
 
 rows-snoc : (rs : List Row) (r : Row) → RowsOk rs → RowOk r → RowsOk (rs ++ (r ∷ []))
 rows-snoc [] r h k = (k, tt)
@@ -141,21 +134,21 @@ module _ (c : Setting) (earlier : List Declaration) (rows : Rows earlier (c .sco
   enum-width : (type : Part) (q : Option Row) → lookup (c .source) (c .scope) type ≡ q → FoundOk q → isEnum (enumOf (c .source) (c .scope) type) ≡ true
       → staticWidth (totalOf (c .source) (c .scope) type) ≡ enumWidth (enumOf (c .source) (c .scope) type)
   enum-width type none e k b =
-      let g : isEnum noEnum ≡ true = subst (λ (o : Option Row). isEnum (elim o as (λ _. EnumOf) [ some r ↦ descEnum (r .decl .desc) | none ↦ noEnum ]) ≡ true) e b in
+      let g : isEnum EnumOf.None ≡ true = subst (λ (o : Option Row). isEnum (elim o as (λ _. EnumOf) [ some r ↦ descEnum (r .decl .desc) | none ↦ EnumOf.None ]) ≡ true) e b in
       impossible (cc)
   enum-width type (some r) e k b =
       subst
       (λ (o : Option Row).
       staticWidth (elim o as (λ _. Size) [ some q ↦ totalSize q | none ↦ Size.Unknown ])
-      ≡ enumWidth (elim o as (λ _. EnumOf) [ some q ↦ descEnum (q .decl .desc) | none ↦ noEnum ]))
+      ≡ enumWidth (elim o as (λ _. EnumOf) [ some q ↦ descEnum (q .decl .desc) | none ↦ EnumOf.None ]))
       (sym e)
       (by (descEnum (r .decl .desc)) refl
-      (subst (λ (o : Option Row). isEnum (elim o as (λ _. EnumOf) [ some q ↦ descEnum (q .decl .desc) | none ↦ noEnum ]) ≡ true) e b))
+      (subst (λ (o : Option Row). isEnum (elim o as (λ _. EnumOf) [ some q ↦ descEnum (q .decl .desc) | none ↦ EnumOf.None ]) ≡ true) e b))
     where
       by : (d : EnumOf) → descEnum (r .decl .desc) ≡ d → isEnum (descEnum (r .decl .desc)) ≡ true → staticWidth (totalSize r) ≡ enumWidth (descEnum (r .decl .desc))
-      by (enumIs w o f) h g = ap staticWidth (k w o f h) ∙ sym (ap enumWidth h)
-      by noEnum h g =
-          let i : isEnum noEnum ≡ true = ap isEnum (sym h) ∙ g in
+      by (EnumOf.Enum w o f) h g = ap staticWidth (k w o f h) ∙ sym (ap enumWidth h)
+      by EnumOf.None h g =
+          let i : isEnum EnumOf.None ≡ true = ap isEnum (sym h) ∙ g in
           impossible (cc)
 
   -- 5: a fixed enum's type is an enum
@@ -163,7 +156,7 @@ module _ (c : Setting) (earlier : List Declaration) (rows : Rows earlier (c .sco
   fixed-enum type e = by (find (c .source) earlier type) (lookup (c .source) (c .scope) type) (met (c .source) earlier (c .scope) type rows) e
     where
       by : (f : Option DeclDesc) (q : Option Row) → Met f q → lacks isEnumDesc f ≡ false
-          → isEnum (elim q as (λ _. EnumOf) [ some r ↦ descEnum (r .decl .desc) | none ↦ noEnum ]) ≡ true
+          → isEnum (elim q as (λ _. EnumOf) [ some r ↦ descEnum (r .decl .desc) | none ↦ EnumOf.None ]) ≡ true
       by none q m h = impossible (cc)
       by (some d) none m h = absurd m
       by (some d) (some r) m h = ap (λ (x : DeclDesc). isEnum (descEnum x)) m ∙ not-false (isEnumDesc d) h
@@ -229,10 +222,10 @@ entries-ok : (s : Text) (h : Head) (earlier : List Declaration) (rows : List Row
 unfolding annotateFrom unknownFrom
 entries-ok s h earlier rows [] are ok u free r = tt
 entries-ok s h earlier rows (d ∷ ds) are ok u free r =
-    let bad : badNames s earlier d ≡ false = or-left (badNames s earlier d) (unknownFrom s (earlier ++ (d ∷ [])) ds) u in
+    let bad : badNames s earlier d ≡ false = neither (badNames s earlier d) (unknownFrom s (earlier ++ (d ∷ [])) ds) u .0 in
     let types : NoneOf (λ (x : Field). badType s earlier (x .desc)) (d .fields) =
     none-of (λ (x : Field). badType s earlier (x .desc)) (d .fields)
-    (or-right (badName s earlier isFrame (parentId (d .decl .desc))) (any (λ (x : Field). badType s earlier (x .desc)) (d .fields)) bad) in (
+    (neither (badName s earlier isFrame (parentId (d .decl .desc))) (any (λ (x : Field). badType s earlier (x .desc)) (d .fields)) bad .1) in (
       record {
         rows = ok;
         fit =
@@ -243,7 +236,7 @@ entries-ok s h earlier rows (d ∷ ds) are ok u free r =
       entries-ok s h (earlier ++ (d ∷ [])) (rows ++ (annotateDecl s rows d .row ∷ [])) ds
           (rows-more earlier rows d (annotateDecl s rows d .row) are refl)
           (rows-snoc rows (annotateDecl s rows d .row) ok (row-ok s rows (d .decl) (annotateFields s rows (d .fields) (d .fields))))
-          (or-right (badNames s earlier d) (unknownFrom s (earlier ++ (d ∷ [])) ds) u) (free .1) (r .1),
+          (neither (badNames s earlier d) (unknownFrom s (earlier ++ (d ∷ [])) ds) u .1) (free .1) (r .1),
     )
 
 -- ---- the answer
@@ -256,10 +249,6 @@ pub record Grounds (s : Text) (bs : List Block) (t : Target) : Type 0 where
 
 -- none of 3 to 9 is met
 module _ (s : Text) (h : Head) (ds : List Declaration) (schema : Schema) where
-  refuse-next : (b : Bool) (why : Refusal) (next : Verdict) → refuseIf b why next ≡ Verdict.Pass → (b ≡ false) × (next ≡ Verdict.Pass)
-  refuse-next true why next e = impossible (cc)
-  refuse-next false why next e = (refl, e)
-
   passes-tests : verdict s h ds schema ≡ Verdict.Pass → (unknownName s ds ≡ false) × (ragged s schema ≡ false)
   unfolding verdict
   passes-tests e =

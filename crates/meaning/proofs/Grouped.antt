@@ -9,10 +9,10 @@ use native.Mathlib.Nat.{add-zero}
 use native.Mathlib.Omega.{arith}
 use lib.Dec.{ltb, eqb}
 use Rattle.definitions.specs.Bytes.{Text}
-use Rattle.definitions.specs.Sizes.{Annotated}
+use Rattle.definitions.specs.Sizes.{Annotated, staticWidth}
 use Rattle.definitions.specs.Refusals.{raggedField}
 use Rattle.definitions.specs.Blocks.{Bit, Chunk, Block}
-use Rattle.definitions.specs.FieldParser.{Setting, FieldParser, Step, go, stop, andThen, new, append, flushed, checkCode, staticWidth, bitOf, kindOf, openChunk, closeChunk, parseBitField, Emit, appends, silent, refuses, isBit, parseUnchecked, emitted, parse, parseAll, done, Outcome, refused, accepted, codeOf, lowerFields}
+use Rattle.definitions.specs.FieldParser.{Setting, FieldParser, Step, go, stop, andThen, new, append, flushed, checkCode, bitOf, kindOf, openChunk, closeChunk, parseBitField, Emit, appends, silent, refuses, isBit, parseUnchecked, emitted, parse, parseAll, done, Outcome, refused, accepted, codeOf, lowerFields}
 use Rattle.definitions.specs.Answer.{answer}
 use Rattle.definitions.specs.declared.EndiannessValue.{EndiannessValue}
 use Rattle.definitions.specs.declared.Field.{Field}
@@ -76,7 +76,7 @@ abbrev FlushedStep : EndiannessValue → FieldParser → Step → Type 0
 FlushedStep o p (go q) = Flushed o p q
 FlushedStep o p (stop why) = Unit {0}
 
-flushed-run : (c : Setting) (p : FieldParser) (cs : List Chunk) → p .uncheckedCode ≡ cs → (bs : List Bit) → FlushedStep (c .endianness) p (flushed c p cs bs)
+flushed-run : (c : Setting) (p : FieldParser) (cs : List Chunk) → p .uncheckedCode ≡ cs → (bs : List Bit) → FlushedStep (c .options .endianness) p (flushed c p cs bs)
 flushed-run c p [] e bs =
     record {
       chunk = refl;
@@ -92,14 +92,14 @@ flushed-run c p (d ∷ ds) e [] =
       shift = refl;
       pending = refl;
       code =
-          runs-snoc (p .code) (Block.checked (c .endianness) (p .offset) (p .uncheckedCode))
+          runs-snoc (p .code) (Block.checked (c .options .endianness) (p .offset) (p .uncheckedCode))
           ∙ ap (λ (l : List Chunk). runsIn (p .code) ++ (fieldsOf l ∷ [])) e
           ∙ ap (λ (l : List Chunk). runsIn (p .code) ++ endRun (fieldsOf l) []) (sym e);
-      order = λ k. order-snoc (c .endianness) (p .code) (Block.checked (c .endianness) (p .offset) (p .uncheckedCode)) k refl;
+      order = λ k. order-snoc (c .options .endianness) (p .code) (Block.checked (c .options .endianness) (p .offset) (p .uncheckedCode)) k refl;
     }
 flushed-run c p (d ∷ ds) e (b ∷ bs) = tt
 
-check-run : (c : Setting) (p : FieldParser) → FlushedStep (c .endianness) p (checkCode c p)
+check-run : (c : Setting) (p : FieldParser) → FlushedStep (c .options .endianness) p (checkCode c p)
 unfolding checkCode
 check-run c p = flushed-run c p (p .uncheckedCode) refl (p .chunk)
 
@@ -118,7 +118,7 @@ append-flushed o p q b h f =
 
 module _ (c : Setting) (rows : RowsOk (c .scope)) where
   abbrev o : EndiannessValue
-  o = c .endianness
+  o = c .options .endianness
 
   -- these runs are added to the code
   abbrev Adds : List Block → List (List (List Field)) → Step → Type 0
@@ -264,7 +264,7 @@ module _ (c : Setting) (rows : RowsOk (c .scope)) where
 -- the checked runs are the runs of the target's fields, and read in the file's order
 pub record Shaped (c : Setting) (bs : List Block) : Type 0 where
   pub runs-are : runsIn bs ≡ placedRuns c (runs c)
-  pub order : Ordered (c .endianness) bs
+  pub order : Ordered (c .options .endianness) bs
 
 abbrev OutcomeShaped : Setting → Outcome → Type 0
 OutcomeShaped c (refused why) = Unit {0}

@@ -9,7 +9,7 @@ use Rattle.definitions.specs.Bytes.{Text, pick}
 use Rattle.definitions.specs.Lines.{Src, Test, Before, Line}
 use Rattle.definitions.specs.Blocks.{span, raw, Kind, Bit, Chunk, widths, getCxxScalarType, mask, isReserved, shouldSkipValue, chunkName, kindLines, bitsLines, readLines, chunkLines, chunksLines}
 use Rattle.definitions.specs.declared.EndiannessValue.{EndiannessValue}
-use Rattle.meaning.proofs.Impossible.{impossible}
+use Rattle.lengths.proofs.Booleans.{impossible}
 
 -- a line of a checked run, and the bytes that it reads or skips
 pub data From : Type 0 where

@@ -26,4 +26,3 @@ pub mod Wellformed
 pub mod Items
 pub mod Names
 pub mod Wp
-pub mod Impossible

@@ -12,8 +12,8 @@ use Rattle.definitions.specs.declared.Arrays.{Arrays}
 use Rattle.definitions.specs.declared.Modifier.{Modifier}
 use Rattle.definitions.specs.declared.ElementSize.{ElementSize}
 use Rattle.definitions.specs.declared.ArraySize.{ArraySize}
+use Rattle.lengths.proofs.Booleans.{impossible}
 use Rattle.meaning.specs.Written.{writtenLine, written}
-use Rattle.meaning.proofs.Impossible.{impossible}
 
 -- ---- lines in a row
 

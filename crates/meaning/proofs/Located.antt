@@ -144,5 +144,5 @@ chunk-of bs c h d =
       runs-ahead = t .ahead;
       groups-ahead = w .ahead;
       groups-behind = w .behind;
-      order-is = order-of bs (c .endianness) (h .order) (t .run);
+      order-is = order-of bs (c .options .endianness) (h .order) (t .run);
     }

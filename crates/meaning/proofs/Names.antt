@@ -10,9 +10,9 @@ use lib.ListN.{length, drop, length-append}
 use lib.Seq.{drop-at}
 use borrow.Author.Tests.{eqb-true, eq-eqb}
 use Rattle.definitions.specs.Bytes.{Text, same}
+use Rattle.lengths.proofs.Booleans.{impossible}
 use Rattle.meaning.specs.Machine.{put}
 use Rattle.meaning.proofs.Wellformed.{Apart}
-use Rattle.meaning.proofs.Impossible.{impossible}
 
 pub same-self : (x : Text) → same x x ≡ true
 same-self [] = refl

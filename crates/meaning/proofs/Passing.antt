@@ -8,11 +8,11 @@ use native.Mathlib.Omega.{arith}
 use lib.ListN.{length, length-append}
 use Rattle.definitions.specs.Lines.{Line, Stmt}
 use Rattle.definitions.specs.Blocks.{body}
+use Rattle.lengths.proofs.Booleans.{impossible}
 use Rattle.meaning.specs.Machine.{State, Standing, running, exec, step, onward, run, excusing}
 use Rattle.meaning.specs.Runs.{Passes}
 use Rattle.meaning.proofs.Steps.{Closed, Leaves, on-step, went-on}
 use Rattle.meaning.proofs.Wp.{Post, wpLines, On, on-exec, line-map}
-use Rattle.meaning.proofs.Impossible.{impossible}
 
 -- of any state
 any-state : Closed (λ σ. Unit {0})

@@ -12,13 +12,13 @@ use lib.ListN.{length, take, length-drop}
 use lib.IntN.{ℤ, pos, negsuc, _-ℤ_}
 use Rattle.definitions.specs.Bytes.{Text, pick}
 use Rattle.definitions.specs.Lines.{Expr, Before, Dest, Out, Line, Stmt}
+use Rattle.lengths.proofs.Booleans.{impossible}
 use Rattle.meaning.specs.Machine.{Cause, put, State, putSpan, putTurns, Num, num, over, limited, unlessZero, eval, excusing}
 use Rattle.meaning.specs.Plain.{Natural, Positive, Operands}
 use Rattle.definitions.specs.Blocks.{span, raw, elementSpan, Elem, parseArrayElement}
 use Rattle.meaning.proofs.Wellformed.{reads, Apart}
 use Rattle.meaning.proofs.Names.{put-other}
 use Rattle.meaning.proofs.Wp.{Post, wpNum, wpAgainst, of-in, wpLine, wpLines, Up, down, line-up, count-up, held}
-use Rattle.meaning.proofs.Impossible.{impossible}
 
 -- ---- numbers
 

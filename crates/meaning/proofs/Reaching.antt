@@ -99,13 +99,13 @@ module _ (bs : List Block) (c : Setting) (d : BitField c) (h : ChunkOf bs c d) (
 
   -- the check and the chunks before its own
   abbrev before : List Line
-  before = checkSize (Expr.lit (h .inRun .number)) ∷ chunksLines (c .endianness) (h .earlier)
+  before = checkSize (Expr.lit (h .inRun .number)) ∷ chunksLines (c .options .endianness) (h .earlier)
 
   run-split : body (runLines (h .inRun)) (behindRun (h .inRun)) ≡ body before (atChunk bs c d h)
   run-split =
       ap (λ (o : EndiannessValue). body (checkSize (Expr.lit (h .inRun .number)) ∷ chunksLines o (h .inRun .chunks)) (behindRun (h .inRun))) (h .order-is)
       ∙ ap (λ (ls : List Line). body (checkSize (Expr.lit (h .inRun .number)) ∷ ls) (behindRun (h .inRun)))
-      (ap (chunksLines (c .endianness)) (h .chunks-are) ∙ chunks-split (c .endianness) (h .earlier) (its ∷ h .later))
+      (ap (chunksLines (c .options .endianness)) (h .chunks-are) ∙ chunks-split (c .options .endianness) (h .earlier) (its ∷ h .later))
       ∙ body-append before _ (behindRun (h .inRun))
 
   -- there are bytes enough for its chunk
@@ -129,8 +129,8 @@ module _ (bs : List Block) (c : Setting) (d : BitField c) (h : ChunkOf bs c d) (
         let sum : offsets (h .inRun .chunks) ≡ offsets (h .earlier) + (widths (placed c 0 (groupOf d)) / 8 + offsets (h .later)) =
         ap offsets (h .chunks-are) ∙ offsets-split (h .earlier) its (h .later) in
         let w : widths (placed c 0 (groupOf d)) / 8 ≡ bitsIn c (groupOf d) / 8 = ap (λ (n : ℕ). n / 8) (placed-widths c 0 (groupOf d)) in
-        subst (λ (ls : List Line). wpLines ls (Here σ) σ) (append-nil (chunksLines (c .endianness) (h .earlier)))
-        (chunks-then (c .endianness) (h .earlier) [] (Here σ) σ (omega (arith, ok .number, sum))
+        subst (λ (ls : List Line). wpLines ls (Here σ) σ) (append-nil (chunksLines (c .options .endianness) (h .earlier)))
+        (chunks-then (c .options .endianness) (h .earlier) [] (Here σ) σ (omega (arith, ok .number, sum))
         (λ τ e. (
           enough (h .inRun .number) (offsets (h .earlier)) (widths (placed c 0 (groupOf d)) / 8) (offsets (h .later)) (bitsIn c (groupOf d) / 8) (held σ) (held τ)
               (ok .number ∙ sum) w le (ap length (e .0) ∙ length-drop (offsets (h .earlier)) (σ .spans span)),

@@ -37,10 +37,10 @@ field-up : (c : Modifier) (w : ℕ) (a : Array) → ElemOk (a .elementSize) (a .
     → ((τ : State) → Kept (startName (a .id)) σ τ → Up k l τ) → Up k (fieldLines c w a l) σ
 field-up Modifier.None w a h k l σ rest = array-up a h k l σ rest
 field-up (Modifier.Plus n) w a h k l σ rest =
-    line k (Line.lower w (sizeName a) n) _ σ
+    line k (Line.minus w (sizeName a) n) _ σ
     (array-up a h k l _ (λ τ i. rest τ (i .0, i .1 ∙ put-other (σ .vars) (sizeName a) _ (startName (a .id)) (size-start (a .mode) (a .id)))))
 field-up (Modifier.Minus n) w a h k l σ rest =
-    line k (Line.raise w (sizeName a) n) _ σ
+    line k (Line.plus w (sizeName a) n) _ σ
     (array-up a h k l _ (λ τ i. rest τ (i .0, i .1 ∙ put-other (σ .vars) (sizeName a) _ (startName (a .id)) (size-start (a .mode) (a .id)))))
 
 module _ (k : ℕ) (l : List Stmt) (s : Safe l) (σ : State) where

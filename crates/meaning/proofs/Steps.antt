@@ -12,8 +12,8 @@ use lib.Signed.{ltZ}
 use Rattle.definitions.specs.Bytes.{Text, pick}
 use Rattle.definitions.specs.Lines.{Expr, Src, Test, Line, Stmt}
 use Rattle.definitions.specs.Blocks.{body}
+use Rattle.lengths.proofs.Booleans.{impossible}
 use Rattle.meaning.specs.Machine.{Cause, Reply, State, putSpan, putVar, putTurns, putReplies, advance, Num, num, over, excusing, eval, less, eqZ, valueOf, Standing, running, ended, returned, waiting, excused, beyond, onNum, amount, takeFront, fetch, asked, subrange, test, exec, loopHead, step, onward, run}
-use Rattle.meaning.proofs.Impossible.{impossible}
 
 -- kept by whatever a line does to a state
 pub record Closed (P : State → Type 0) : Type 0 where
@@ -101,8 +101,8 @@ module _ (P : State → Type 0) (keeps : Closed P) (l : List Stmt) where
   on-exec σ (Line.set d x v) p = on-fetch σ v _ p (λ n τ q. (keeps .var τ x _ q, ([], refl)))
   on-exec σ (Line.setCast x c v) p = on-fetch σ v _ p (λ n τ q. (keeps .var τ x n q, ([], refl)))
   on-exec σ (Line.setTo d x e) p = on-num (eval excusing σ e) _ (λ n. (keeps .var σ x _ p, ([], refl)))
-  on-exec σ (Line.lower w x n) p = (keeps .var σ x _ p, ([], refl))
-  on-exec σ (Line.raise w x n) p = (keeps .var σ x _ p, ([], refl))
+  on-exec σ (Line.minus w x n) p = (keeps .var σ x _ p, ([], refl))
+  on-exec σ (Line.plus w x n) p = (keeps .var σ x _ p, ([], refl))
   on-exec σ (Line.keep x s) p = (keeps .copy σ x s p, ([], refl))
   on-exec σ (Line.front d x s n) p = on-num (eval excusing σ n) _ (λ len. on-amount len _ (λ n. on-subrange σ x s 0 n p))
   on-exec σ (Line.part d x s a n) p =

@@ -143,21 +143,21 @@ module _ (c : Setting) (nr w : ℕ) (f : Field) where
 
   -- the read of the chunk
   abbrev reads : Line
-  reads = Line.set (Before.chunk (getCxxScalarType w)) x (readOf span (c .endianness) w)
+  reads = Line.set (Before.chunk (getCxxScalarType w)) x (readOf span (c .options .endianness) w)
 
   abbrev Ahead : List Field → List Field → List Line
   Ahead before after = pick (alone before after) [] (reads ∷ bitsLines x (placed c 0 before))
 
   abbrev From : List Field → List Field → Src
-  From before after = pick (alone before after) (readOf span (c .endianness) w) (Src.bits x (bitsIn c before) (mask (widthOf c f)))
+  From before after = pick (alone before after) (readOf span (c .options .endianness) w) (Src.bits x (bitsIn c before) (mask (widthOf c f)))
 
   abbrev Rest : List Field → List Field → List Line
   Rest before after = bitsLines x (placed c (bitsIn c before + widthOf c f) after)
 
   own-split : (before after : List Field)
-      → readLines (c .endianness) nr w (placed c 0 before ++ (bitBehind before ∷ placed c (bitsIn c before + widthOf c f) after))
+      → readLines (c .options .endianness) nr w (placed c 0 before ++ (bitBehind before ∷ placed c (bitsIn c before + widthOf c f) after))
       ≡ Ahead before after ++ (kindLines (From before after) (kindOf c (f .desc)) ++ Rest before after)
-  own-split [] [] = sym (append-nil (kindLines (readOf span (c .endianness) w) (kindOf c (f .desc))))
+  own-split [] [] = sym (append-nil (kindLines (readOf span (c .options .endianness) w) (kindOf c (f .desc))))
   own-split [] (d ∷ after) = refl
   own-split (b ∷ []) after =
       rw (alone-cons b [] after)
@@ -170,7 +170,7 @@ module _ (c : Setting) (nr w : ℕ) (f : Field) where
   -- the value: where os are read
   module _ (τ : State) (os : List ℕ) (read : take (w / 8) (τ .spans span) ≡ os) (octets : Octets os) (room : w / 8 ≤ held τ) where
     abbrev Right : List Field → Src → Post
-    Right before v ρ = (taken ρ v ≡ fieldValue (c .endianness) os (bitsIn c before) (widthOf c f)) × Room ρ v
+    Right before v ρ = (taken ρ v ≡ fieldValue (c .options .endianness) os (bitsIn c before) (widthOf c f)) × Room ρ v
 
     several : (before : List Field) → SparesAll x (placed c 0 before)
         → wpLines (reads ∷ bitsLines x (placed c 0 before)) (Right before (Src.bits x (bitsIn c before) (mask (widthOf c f)))) τ
@@ -179,8 +179,8 @@ module _ (c : Setting) (nr w : ℕ) (f : Field) where
       keep-bits x (placed c 0 before) sp _ _
           (λ ρ e. (
             and-mask (ρ .vars x / 2 ^ bitsIn c before) (widthOf c f)
-                ∙ ap (λ (v : ℕ). v / 2 ^ bitsIn c before % 2 ^ widthOf c f) (e ∙ put-same (τ .vars) x _ ∙ ap (valueOf (c .endianness)) read)
-                ∙ field-bits (c .endianness) os octets (bitsIn c before) (widthOf c f),
+                ∙ ap (λ (v : ℕ). v / 2 ^ bitsIn c before % 2 ^ widthOf c f) (e ∙ put-same (τ .vars) x _ ∙ ap (valueOf (c .options .endianness)) read)
+                ∙ field-bits (c .options .endianness) os octets (bitsIn c before) (widthOf c f),
             tt,
           )),
     )
@@ -188,8 +188,8 @@ module _ (c : Setting) (nr w : ℕ) (f : Field) where
     own-value : (before after : List Field) → w ≡ bitsIn c (before ++ (f ∷ after)) → SparesAll x (placed c 0 before)
         → wpLines (Ahead before after) (Right before (From before after)) τ
     own-value [] [] e sp = (
-      ap (valueOf (c .endianness)) read
-          ∙ whole-bits (c .endianness) os (widthOf c f) octets (omega (arith, e, ap length read, length-take (w / 8) (τ .spans span))),
+      ap (valueOf (c .options .endianness)) read
+          ∙ whole-bits (c .options .endianness) os (widthOf c f) octets (omega (arith, e, ap length read, length-take (w / 8) (τ .spans span))),
       room,
     )
     own-value [] (d ∷ after) e sp = several [] tt
@@ -240,17 +240,17 @@ module _ (bs : List Block) (c : Setting) (d : BitField c) (h : ChunkOf bs c d) w
       ∙ ap (λ (n : ℕ). placed c 0 (d .before) ++ placed c n (d .field ∷ d .after)) (zero-add (bitsIn c (d .before)))
 
   -- the lines of its chunk: those ahead of it, its own, and those behind
-  own-lines : chunkLines (c .endianness) (h .nr) chunkFields ≡ linesAhead bs c d h ++ (ownLines bs c d h ++ Rest c (h .nr) (bitsIn c (groupOf d)) (d .field) (d .before) (d .after))
+  own-lines : chunkLines (c .options .endianness) (h .nr) chunkFields ≡ linesAhead bs c d h ++ (ownLines bs c d h ++ Rest c (h .nr) (bitsIn c (groupOf d)) (d .field) (d .before) (d .after))
   own-lines =
-      ap (λ (b : Bool). pick b (Line.reserved span (widths chunkFields / 8) ∷ []) (readLines (c .endianness) (h .nr) (widths chunkFields) chunkFields))
+      ap (λ (b : Bool). pick b (Line.reserved span (widths chunkFields / 8) ∷ []) (readLines (c .options .endianness) (h .nr) (widths chunkFields) chunkFields))
       (ap shouldSkipValue fields-are ∙ some-value (placed c 0 (d .before)) _ _ (d .has-value))
-      ∙ ap (λ (n : ℕ). readLines (c .endianness) (h .nr) n chunkFields) (placed-widths c 0 (groupOf d))
-      ∙ ap (readLines (c .endianness) (h .nr) (bitsIn c (groupOf d))) fields-are
+      ∙ ap (λ (n : ℕ). readLines (c .options .endianness) (h .nr) n chunkFields) (placed-widths c 0 (groupOf d))
+      ∙ ap (readLines (c .options .endianness) (h .nr) (bitsIn c (groupOf d))) fields-are
       ∙ own-split c (h .nr) (bitsIn c (groupOf d)) (d .field) (d .before) (d .after)
 
   pub at-chunk : atChunk bs c d h ≡ body (linesAhead bs c d h) (atField bs c d h)
   at-chunk =
-      ap (λ (ls : List Line). body (ls ++ chunksLines (c .endianness) (h .later)) (behindRun (h .inRun))) own-lines
+      ap (λ (ls : List Line). body (ls ++ chunksLines (c .options .endianness) (h .later)) (behindRun (h .inRun))) own-lines
       ∙ ap (λ (ls : List Line). body ls (behindRun (h .inRun))) (regroup (linesAhead bs c d h) (ownLines bs c d h) _ _)
       ∙ body-append (linesAhead bs c d h) _ (behindRun (h .inRun))
       ∙ ap (body (linesAhead bs c d h)) (body-append (ownLines bs c d h) _ (behindRun (h .inRun)))
@@ -272,4 +272,4 @@ module _ (bs : List Block) (c : Setting) (d : BitField c) (h : ChunkOf bs c d) w
     pub own-holds : (τ : State) → Taken τ → wpLines (ownLines bs c d h) (λ ρ. Holds ρ (kindOf c (d .field .desc)) (widthOf c (d .field)) (ruled c d (found .spans span))) τ
     own-holds τ t =
         kind-holds τ (source bs c d h) (kindOf c (d .field .desc)) (widthOf c (d .field)) (ruled c d (found .spans span))
-        (bits-lt (lowestFirst (c .endianness) (take (bitsIn c (groupOf d) / 8) (found .spans span))) (bitsIn c (d .before)) (widthOf c (d .field))) (t .1) (t .0)
+        (bits-lt (lowestFirst (c .options .endianness) (take (bitsIn c (groupOf d) / 8) (found .spans span))) (bitsIn c (d .before)) (widthOf c (d .field))) (t .1) (t .0)

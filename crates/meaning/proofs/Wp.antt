@@ -13,10 +13,10 @@ use lib.IntN.{ℤ, pos, negsuc}
 use borrow.Author.Tests.{le-leb, eqb-true, eqb-false, ltb-true, ltb-false, leb-true}
 use Rattle.definitions.specs.Bytes.{Text, pick}
 use Rattle.definitions.specs.Lines.{Expr, Src, Test, Line, Stmt}
+use Rattle.lengths.proofs.Booleans.{impossible}
 use Rattle.meaning.specs.Machine.{Reply, State, putSpan, advance, putVar, putTurns, putReplies, Num, num, over, eval, less, isSize, minusModulo, plusModulo, valueOf, Standing, running, ended, returned, waiting, excused, beyond, fetch, asked, onNum, test, kept, exec, loopHead, step, onward, run, excusing}
 use Rattle.definitions.specs.Blocks.{span, body}
 use Rattle.meaning.specs.Plain.{Natural, Operands, PlainExpr, Then, PlainTest, PlainLine, PlainStmt, PlainNext}
-use Rattle.meaning.proofs.Impossible.{impossible}
 
 -- not beyond the end, and the line that comes next is plain
 abbrev pub Fine : Standing → Type 0
@@ -105,8 +105,8 @@ wpLine (Line.check d c) Q σ = wpTest σ c (λ τ. Unit {0}) Q
 wpLine (Line.set d x v) Q σ = wpFetch σ v (λ n τ. Q (putVar τ x (kept d n)))
 wpLine (Line.setCast x c v) Q σ = wpFetch σ v (λ n τ. Q (putVar τ x n))
 wpLine (Line.setTo d x e) Q σ = wpOf σ e (λ n. Q (putVar σ x n))
-wpLine (Line.lower w x n) Q σ = Q (putVar σ x (minusModulo w (σ .vars x) n))
-wpLine (Line.raise w x n) Q σ = Q (putVar σ x (plusModulo w (σ .vars x) n))
+wpLine (Line.minus w x n) Q σ = Q (putVar σ x (minusModulo w (σ .vars x) n))
+wpLine (Line.plus w x n) Q σ = Q (putVar σ x (plusModulo w (σ .vars x) n))
 wpLine (Line.keep x s) Q σ = Q (putSpan σ x (σ .spans s))
 wpLine (Line.front d x s n) Q σ =
     wpOf σ n (λ len. (0 + len ≤ length (σ .spans s)) × Q (putSpan σ x (take len (drop 0 (σ .spans s)))))
@@ -253,8 +253,8 @@ module _ (Q Q′ : Post) (q : (τ : State) → Q τ → Q′ τ) where
   line-map (Line.set d x v) σ h = fetch-map σ v _ _ (λ n τ k. q _ k) h
   line-map (Line.setCast x c v) σ h = fetch-map σ v _ _ (λ n τ k. q _ k) h
   line-map (Line.setTo d x e) σ h = of-map σ e _ _ (λ n k. q _ k) h
-  line-map (Line.lower w x n) σ h = q _ h
-  line-map (Line.raise w x n) σ h = q _ h
+  line-map (Line.minus w x n) σ h = q _ h
+  line-map (Line.plus w x n) σ h = q _ h
   line-map (Line.keep x s) σ h = q _ h
   line-map (Line.front d x s n) σ h = of-map σ n _ _ (λ len m. (m .0, q _ (m .1))) h
   line-map (Line.part d x s a n) σ h = of-map σ a _ _ (λ at k. of-map σ n _ _ (λ len m. (m .0, q _ (m .1))) k) h
@@ -362,8 +362,8 @@ module _ (K : State → List Stmt → Type 0) where
   on-exec σ (Line.set d x v) l f h = on-fetch σ v _ h
   on-exec σ (Line.setCast x c v) l f h = on-fetch σ v _ h
   on-exec σ (Line.setTo d x e) l f h = on-of σ e _ h
-  on-exec σ (Line.lower w x n) l f h = h
-  on-exec σ (Line.raise w x n) l f h = h
+  on-exec σ (Line.minus w x n) l f h = h
+  on-exec σ (Line.plus w x n) l f h = h
   on-exec σ (Line.keep x s) l f h = h
   on-exec σ (Line.front d x s n) l f h =
       on-of σ n _
@@ -427,8 +427,8 @@ line-plain σ (Line.check d c) Q h = test-plain σ c _ _ h
 line-plain σ (Line.set d x v) Q h = tt
 line-plain σ (Line.setCast x c v) Q h = tt
 line-plain σ (Line.setTo d x e) Q h = of-plain σ e _ h
-line-plain σ (Line.lower w x n) Q h = tt
-line-plain σ (Line.raise w x n) Q h = tt
+line-plain σ (Line.minus w x n) Q h = tt
+line-plain σ (Line.plus w x n) Q h = tt
 line-plain σ (Line.keep x s) Q h = tt
 line-plain σ (Line.front d x s n) Q h = of-plain σ n _ h
 line-plain σ (Line.part d x s a n) Q h = (of-plain σ a _ h, of-then σ a _ _ (λ i e k. of-plain σ n _ k) h)

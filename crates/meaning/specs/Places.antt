@@ -41,7 +41,7 @@ pub record ChunkOf (bs : List Block) (c : Setting) (d : BitField c) : Type 0 whe
   pub runs-ahead : runsIn (inRun .pre) ≡ placedRuns c (d .runsBefore)
   pub groups-ahead : fieldsOf earlier ≡ placedRun c (d .groupsBefore)
   pub groups-behind : fieldsOf later ≡ placedRun c (d .groupsAfter)
-  pub order-is : inRun .order ≡ c .endianness
+  pub order-is : inRun .order ≡ c .options .endianness
 
 -- the only field of its group
 abbrev pub alone : List Field → List Field → Bool
@@ -54,19 +54,19 @@ module _ (bs : List Block) (c : Setting) (d : BitField c) (h : ChunkOf bs c d) w
   -- the lines of its chunk and all that follow
   abbrev pub atChunk : List Stmt
   atChunk =
-      body (chunkLines (c .endianness) (h .nr) (placed c 0 (groupOf d)) ++ chunksLines (c .endianness) (h .later)) (behindRun (h .inRun))
+      body (chunkLines (c .options .endianness) (h .nr) (placed c 0 (groupOf d)) ++ chunksLines (c .options .endianness) (h .later)) (behindRun (h .inRun))
 
   -- those ahead of its own: the read of its chunk, and its group's fields before it
   abbrev pub linesAhead : List Line
   linesAhead =
       pick (alone (d .before) (d .after)) []
-      (Line.set (Before.chunk (getCxxScalarType (bitsIn c (groupOf d)))) (chunkName (h .nr)) (readOf span (c .endianness) (bitsIn c (groupOf d)))
+      (Line.set (Before.chunk (getCxxScalarType (bitsIn c (groupOf d)))) (chunkName (h .nr)) (readOf span (c .options .endianness) (bitsIn c (groupOf d)))
       ∷ bitsLines (chunkName (h .nr)) (placed c 0 (d .before)))
 
   -- where its first line takes its value from: alone it is read, else cut out of its chunk's variable
   abbrev pub source : Src
   source =
-      pick (alone (d .before) (d .after)) (readOf span (c .endianness) (bitsIn c (groupOf d)))
+      pick (alone (d .before) (d .after)) (readOf span (c .options .endianness) (bitsIn c (groupOf d)))
       (Src.bits (chunkName (h .nr)) (bitsIn c (d .before)) (mask (widthOf c (d .field))))
 
   -- its own lines: what is done with that value
@@ -77,7 +77,7 @@ module _ (bs : List Block) (c : Setting) (d : BitField c) (h : ChunkOf bs c d) w
   abbrev pub behindField : List Stmt
   behindField =
       body
-      (bitsLines (chunkName (h .nr)) (placed c (bitsIn c (d .before) + widthOf c (d .field)) (d .after)) ++ chunksLines (c .endianness) (h .later))
+      (bitsLines (chunkName (h .nr)) (placed c (bitsIn c (d .before) + widthOf c (d .field)) (d .after)) ++ chunksLines (c .options .endianness) (h .later))
       (behindRun (h .inRun))
 
   -- its own lines and all that follow
@@ -86,7 +86,7 @@ module _ (bs : List Block) (c : Setting) (d : BitField c) (h : ChunkOf bs c d) w
 
 -- the value that the rule gives it, where these are the bytes of the span before its chunk is read: as many octets as its group fills are its group's
 abbrev pub ruled : (c : Setting) → BitField c → List ℕ → ℕ
-ruled c d bytes = fieldValue (c .endianness) (take (bitsIn c (groupOf d) / 8) bytes) (bitsIn c (d .before)) (widthOf c (d .field))
+ruled c d bytes = fieldValue (c .options .endianness) (take (bitsIn c (groupOf d) / 8) bytes) (bitsIn c (d .before)) (widthOf c (d .field))
 
 -- behind the lines of a field of so many bits: its variable holds v; v is the fixed value. A condition of more than 8 bits is left out
 abbrev pub Holds : State → Kind → ℕ → ℕ → Type 0

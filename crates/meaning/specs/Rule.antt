@@ -7,8 +7,9 @@ use mathlib.Core.List.{List, [], _∷_, _++_, reverse}
 use Prim.Native.Nat.{ℕ, zero, suc, _+_, _*_, _/_, _%_, _^_, _<_}
 use lib.Dec.{eqb}
 use lib.ListN.{getD}
-use Rattle.definitions.specs.Sizes.{EnumOf, enumIs, noEnum, enumOf}
+use Rattle.definitions.specs.Sizes.{enumOf}
 use Rattle.definitions.specs.FieldParser.{Setting, isBit}
+use Rattle.definitions.specs.declared.EnumOf.{EnumOf}
 use Rattle.definitions.specs.declared.EndiannessValue.{EndiannessValue}
 use Rattle.definitions.specs.declared.FieldDesc.{FieldDesc}
 use Rattle.definitions.specs.declared.Field.{Field}
@@ -42,8 +43,8 @@ Octets (b ∷ bs) = (b < 256) × Octets bs
 
 -- the width that an enum is declared with
 abbrev pub enumWidth : EnumOf → ℕ
-enumWidth (enumIs width isOpen isComplete) = width
-enumWidth noEnum = 0
+enumWidth (EnumOf.Enum width isOpen isComplete) = width
+enumWidth EnumOf.None = 0
 
 -- "widths are the record's, a flag 1, an enum as declared"; only bit fields have one
 abbrev pub declaredWidth : Setting → FieldDesc → ℕ

@@ -1,13 +1,13 @@
 -- A part of the record, two texts that are the same, and the written name (`part`, `same`, `sameName`, `isPayloadId`, `nameText`).
 -- Assumes nothing.
-use Prim.Native.Nat.{ℕ, _+_, _-_, _≤_, _<_}
-use mathlib.Core.Bool.{Bool, true, false}
+use Prim.Native.Nat.{ℕ, suc, _+_, _-_, _≤_, _<_}
+use mathlib.Core.Bool.{Bool, true, false, _&&_}
 use mathlib.Core.List.{List, [], _∷_}
-use mathlib.Core.Path.{_≡_, sym, ap, _∙_}
+use mathlib.Core.Path.{_≡_, refl, sym, ap, _∙_}
 use native.Mathlib.Numerals.{add-one}
 use native.Mathlib.Omega.{arith}
-use borrow.Author.Tests.{eq-eqb, ne-eqb, le-leb, lt-leb}
-use lib.Dec.{leb}
+use borrow.Author.Tests.{eq-eqb, ne-eqb}
+use lib.Dec.{eqb}
 use lib.ListN.{length, getD, take, drop, drop-of-length-le, length-drop}
 use lib.Seq.{take-all, take-nil, drop-cons}
 use Rattle.definitions.specs.Bytes.{same, part, pick, text}
@@ -30,24 +30,29 @@ module _ (s : List ℕ) (p : Part) where
 
 -- ---- two texts
 
-module _ (a b : List ℕ) (i : ℕ) {e : Bool} (inv : same (drop i a) (drop i b) ≡ e) where
-  pub same-end : length a ≤ i → leb (length b) i ≡ e
-  same-end h = by (drop i b) (length-drop i b) (rw (drop-of-length-le a h) at inv)
-    where
-      by : (r : List ℕ) → length r ≡ length b - i → same [] r ≡ e → leb (length b) i ≡ e
-      by [] q t = le-leb (length b) i (omega (arith, q)) ∙ t
-      by (x ∷ r) q t = lt-leb (length b) i (omega (arith, q)) ∙ t
+pub same-lengths : (a b : List ℕ) → (length a ≡ length b → ⊥) → false ≡ same a b
+same-lengths [] [] h = absurd (h refl)
+same-lengths [] (y ∷ b) h = refl
+same-lengths (x ∷ a) [] h = refl
+same-lengths (x ∷ a) (y ∷ b) h = by (eqb x y) (same-lengths a b (λ e. h (ap suc e)))
+  where
+    by : (t : Bool) → false ≡ same a b → false ≡ (t && same a b)
+    by true e = e
+    by false e = refl
+
+module _ (a b : List ℕ) (i : ℕ) {e : Bool} (inv : same (drop i a) (drop i b) ≡ e) (long : length a ≡ length b) where
+  pub same-end : length a ≤ i → true ≡ e
+  same-end h = rw (drop-of-length-le a h, drop-of-length-le b (let z : length b ≤ i = omega arith in z)) at inv
 
   module _ (w : i < length a) where
-    pub same-short : length b ≤ i → false ≡ e
-    same-short h = rw (drop-cons a i 0 w, drop-of-length-le b h) at inv
+    at-b : drop i b ≡ getD b i 0 ∷ drop (suc i) b
+    at-b = drop-cons b i 0 (omega arith)
 
-    module _ (v : i < length b) where
-      pub same-other : (getD a i 0 ≡ getD b i 0 → ⊥) → false ≡ e
-      same-other h = rw (drop-cons a i 0 w, drop-cons b i 0 v, ne-eqb _ _ h) at inv
+    pub same-other : (getD a i 0 ≡ getD b i 0 → ⊥) → false ≡ e
+    same-other h = rw (drop-cons a i 0 w, at-b, ne-eqb _ _ h) at inv
 
-      pub same-turn : getD a i 0 ≡ getD b i 0 → same (drop (i + 1) a) (drop (i + 1) b) ≡ e
-      same-turn h = rw (add-one i) (rw (drop-cons a i 0 w, drop-cons b i 0 v, eq-eqb _ _ h) at inv)
+    pub same-turn : getD a i 0 ≡ getD b i 0 → same (drop (i + 1) a) (drop (i + 1) b) ≡ e
+    same-turn h = rw (add-one i) (rw (drop-cons a i 0 w, at-b, eq-eqb _ _ h) at inv)
 
 pub same-named : (s : List ℕ) (p q : Part) {x y : List ℕ} {r : Bool} → x ≡ part s p → y ≡ part s q → r ≡ same x y → r ≡ sameName s p q
 same-named s p q ex ey er = er ∙ rw (ex, ey)

@@ -57,13 +57,15 @@ module _ {A : Type 0} (bad : A) {x : A} where
   pub no-modifier : (f : Modifier → ℕ → A) {r e : ModifierRead} → r ≡ e → r ≡ ModifierRead.Wrong → x ≡ bad → x ≡ onModifier e bad f
   no-modifier f h k t = t ∙ ap (λ (e : ModifierRead). onModifier e bad f) (sym k ∙ h)
 
-  pub maybe-number : (f : MaybeNumber → ℕ → A) {r e : MaybeNumberRead} {a : MaybeNumber} {p : ℕ} → r ≡ e → r ≡ MaybeNumberRead.Is a p → x ≡ f a p → x ≡ onMaybeNumber e bad f
+  pub maybe-number : (f : MaybeNumber → ℕ → A) {r e : MaybeNumberRead} {a : MaybeNumber} {p : ℕ}
+      → r ≡ e → r ≡ MaybeNumberRead.Is a p → x ≡ f a p → x ≡ onMaybeNumber e bad f
   maybe-number f h k t = t ∙ ap (λ (e : MaybeNumberRead). onMaybeNumber e bad f) (sym k ∙ h)
 
   pub no-maybe-number : (f : MaybeNumber → ℕ → A) {r e : MaybeNumberRead} → r ≡ e → r ≡ MaybeNumberRead.Wrong → x ≡ bad → x ≡ onMaybeNumber e bad f
   no-maybe-number f h k t = t ∙ ap (λ (e : MaybeNumberRead). onMaybeNumber e bad f) (sym k ∙ h)
 
-  pub maybe-part : (f : MaybePart → ℕ → A) {r e : MaybePartRead} {a : MaybePart} {p : ℕ} → r ≡ e → r ≡ MaybePartRead.Is a p → x ≡ f a p → x ≡ onMaybePart e bad f
+  pub maybe-part : (f : MaybePart → ℕ → A) {r e : MaybePartRead} {a : MaybePart} {p : ℕ}
+      → r ≡ e → r ≡ MaybePartRead.Is a p → x ≡ f a p → x ≡ onMaybePart e bad f
   maybe-part f h k t = t ∙ ap (λ (e : MaybePartRead). onMaybePart e bad f) (sym k ∙ h)
 
   pub no-maybe-part : (f : MaybePart → ℕ → A) {r e : MaybePartRead} → r ≡ e → r ≡ MaybePartRead.Wrong → x ≡ bad → x ≡ onMaybePart e bad f
@@ -113,4 +115,12 @@ pub one-wide : (id : Part) (m : Modifier) (n : MaybeNumber) (p : ℕ) {w : Maybe
     → DescRead.Is (FieldDesc.Array id w t m n) p ≡ oneArray id w t m n p
 one-wide id m n p h k = rw (h, k)
 
-pub ruleset via = (part, no-part, one-typed, one-wide, found, no-found, number, no-number, name, no-name, bit, no-bit, modifier, no-modifier, maybe-number, no-maybe-number, maybe-part, no-maybe-part, desc, no-desc, cond, no-cond, field, no-field, head, no-head, decl, no-decl)
+-- a chain of keys: the first that stands there decides
+pub ruleset chain = (found, no-found)
+
+-- a line, and what is made of several
+pub ruleset lines = (number, no-number, name, no-name, bit, no-bit, modifier, no-modifier, maybe-number, no-maybe-number, maybe-part, no-maybe-part)
+
+pub ruleset wholes = (desc, no-desc, cond, no-cond, field, no-field, head, no-head, decl, no-decl)
+
+pub ruleset via = (part, no-part, one-typed, one-wide, chain, lines, wholes)

@@ -193,4 +193,6 @@ module _ (s : List ℕ) (at : ℕ) {r : Bool} (q : r ≡ isForbidden s at) where
 
 pub ruleset words = (read-past, read-newline, read-other, first-past, first-digit, first-end)
 
-pub ruleset forbidden = (line-past, line-end, line-other, some-past, some-other, forbidden-span, forbidden-output, forbidden-not, forbidden-chunk, name-forbidden, name-free)
+pub ruleset digit-lines = (line-past, line-end, line-other, some-past, some-other)
+
+pub ruleset forbidden = (digit-lines, forbidden-span, forbidden-output, forbidden-not, forbidden-chunk, name-forbidden, name-free)

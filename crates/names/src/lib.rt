@@ -223,21 +223,21 @@ pub fn part(rec: &[u8], p: Part) -> &[u8]
     &rec[a..e]
 }
 
-// Two texts that are the same.
+// Two texts that are the same: the lengths first, since names mostly differ there.
 fn same_bytes(a: &[u8], b: &[u8]) -> bool
     ensures { λ r. ⌜ r ≡ same (now (a .entry)) (now (b .entry)) ⌝ }
 {
+    if a.len() != b.len() {
+        return false;
+    }
     let mut i = 0;
     while i < a.len() {
-        if b.len() <= i {
-            return false;
-        }
         if a[i] != b[i] {
             return false;
         }
         i += 1;
     }
-    b.len() <= i
+    true
 }
 
 // Two names that are the same.

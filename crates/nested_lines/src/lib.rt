@@ -9,7 +9,9 @@ ghost use Rattle.nested_lines.specs.Texts.{spanText, parseSpanText};
 
 // A nested parser on the span.
 pub fn put_nested(out: &mut [u8], at: usize, arrays: Arrays, id: &[u8], type_id: &[u8]) -> usize
-    ensures { λ r. ⌜ Put (now (out .entry)) at (blockText (Block.nested (now («type_id» .entry)) (named arrays (now (id .entry)) (bytes "_")))) r (now (out .exit)) ⌝ }
+    ensures { λ r. ⌜ Put (now (out .entry)) at
+        (blockText (Block.nested (now («type_id» .entry)) (named arrays (now (id .entry)) (bytes "_"))))
+        r (now (out .exit)) ⌝ }
 {
     let p = text::put_name(out, at, b"if (!", type_id, b"::Parse(span, &");
     expressions::put_named(out, p, b"", arrays, id, b"_", b")) return false;\n")
@@ -57,7 +59,9 @@ pub fn put_nested_up_to(
     n: u64,
     type_id: &[u8],
 ) -> usize
-    ensures { λ r. ⌜ Put (now (out .entry)) at (blockText (Block.nestedUpTo (now (id .entry)) n (now («type_id» .entry)) (named arrays (now (id .entry)) (bytes "_")))) r (now (out .exit)) ⌝ }
+    ensures { λ r. ⌜ Put (now (out .entry)) at
+        (blockText (Block.nestedUpTo (now (id .entry)) n (now («type_id» .entry)) (named arrays (now (id .entry)) (bytes "_"))))
+        r (now (out .exit)) ⌝ }
 {
     let p = put_span(out, at, id, n);
     put_parse_span(out, p, arrays, id, type_id)

@@ -49,7 +49,8 @@ module _ (c : Text) (v : ℕ) where
         unfolding blockText roomText whenText
         optional-open a b d e = follow room-leads a (follow (piece (text "    ") ▸ piece x ▸ piece (text " = ")) b (chain d e))
 
-        pub optional-closed : {l l₁ l₂ l₃ : Text} {i r₁ r₂ r₃ : ℕ} → Put l i (rawText c v order w type []) r₁ l₁ → Put l₁ r₁ (text "    " ++ (x ++ text " = ")) r₂ l₂
+        pub optional-closed : {l l₁ l₂ l₃ : Text} {i r₁ r₂ r₃ : ℕ} → Put l i (rawText c v order w type []) r₁ l₁
+            → Put l₁ r₁ (text "    " ++ (x ++ text " = ")) r₂ l₂
             → Put l₂ r₂ (type ++ text "(raw_value);\n}\n") r₃ l₃
             → Put l i (blockText (Block.optionalClosed c v order w x type)) r₃ l₃
         unfolding blockText rawText roomText whenText

@@ -1,6 +1,7 @@
 // The block of an optional field: `parse_optional_field` of cxx.rs. Document 01, 'Lowering'; the texts are those of definitions' Blocks.
 use definitions::Arrays;
 use definitions::EndiannessValue;
+use definitions::Options;
 ghost use mathlib.Core.List.{[]};
 ghost use Rattle.definitions.specs.Bytes.{text as bytes};
 ghost use Rattle.definitions.specs.Blocks.{named, Block};
@@ -35,13 +36,16 @@ pub fn put_optional_scalar(
     at: usize,
     cond: &[u8],
     value: u64,
-    endianness: EndiannessValue,
     width: u64,
-    arrays: Arrays,
+    options: Options,
     id: &[u8],
 ) -> usize
-    ensures { λ r. ⌜ Put (now (out .entry)) at (blockText (Block.optionalScalar (now (cond .entry)) value endianness width (named arrays (now (id .entry)) (bytes "_")))) r (now (out .exit)) ⌝ }
+    ensures { λ r. ⌜ Put (now (out .entry)) at
+        (blockText (Block.optionalScalar (now (cond .entry)) value (options .endianness) width (named (options .arrays) (now (id .entry)) (bytes "_"))))
+        r (now (out .exit)) ⌝ }
 {
+    let endianness = options.endianness;
+    let arrays = options.arrays;
     let p = put_room(out, at, cond, value, width);
     let q = expressions::put_named(out, p, b"    ", arrays, id, b"_", b" = ");
     expressions::put_read(out, q, b"", b"span", endianness, width, b";\n}\n")
@@ -52,14 +56,18 @@ pub fn put_optional_open(
     at: usize,
     cond: &[u8],
     value: u64,
-    endianness: EndiannessValue,
     width: u64,
-    arrays: Arrays,
+    options: Options,
     id: &[u8],
     type_id: &[u8],
 ) -> usize
-    ensures { λ r. ⌜ Put (now (out .entry)) at (blockText (Block.optionalOpen (now (cond .entry)) value endianness width (named arrays (now (id .entry)) (bytes "_")) (now («type_id» .entry)))) r (now (out .exit)) ⌝ }
+    ensures { λ r. ⌜ Put (now (out .entry)) at
+        (blockText (Block.optionalOpen (now (cond .entry)) value (options .endianness) width
+        (named (options .arrays) (now (id .entry)) (bytes "_")) (now («type_id» .entry))))
+        r (now (out .exit)) ⌝ }
 {
+    let endianness = options.endianness;
+    let arrays = options.arrays;
     let p = put_room(out, at, cond, value, width);
     let q = expressions::put_named(out, p, b"    ", arrays, id, b"_", b" = ");
     let s = text::put(out, q, type_id);
@@ -102,14 +110,18 @@ pub fn put_optional_closed(
     at: usize,
     cond: &[u8],
     value: u64,
-    endianness: EndiannessValue,
     width: u64,
-    arrays: Arrays,
+    options: Options,
     id: &[u8],
     type_id: &[u8],
 ) -> usize
-    ensures { λ r. ⌜ Put (now (out .entry)) at (blockText (Block.optionalClosed (now (cond .entry)) value endianness width (named arrays (now (id .entry)) (bytes "_")) (now («type_id» .entry)))) r (now (out .exit)) ⌝ }
+    ensures { λ r. ⌜ Put (now (out .entry)) at
+        (blockText (Block.optionalClosed (now (cond .entry)) value (options .endianness) width
+        (named (options .arrays) (now (id .entry)) (bytes "_")) (now («type_id» .entry))))
+        r (now (out .exit)) ⌝ }
 {
+    let endianness = options.endianness;
+    let arrays = options.arrays;
     let p = put_raw_value(out, at, cond, value, endianness, width, type_id);
     let q = expressions::put_named(out, p, b"    ", arrays, id, b"_", b" = ");
     text::put_name(out, q, type_id, b"(raw_value);\n}\n", b"")
@@ -124,7 +136,9 @@ pub fn put_optional_nested(
     id: &[u8],
     type_id: &[u8],
 ) -> usize
-    ensures { λ r. ⌜ Put (now (out .entry)) at (blockText (Block.optionalNested (now (cond .entry)) value (named arrays (now (id .entry)) (bytes "_")) (now («type_id» .entry)))) r (now (out .exit)) ⌝ }
+    ensures { λ r. ⌜ Put (now (out .entry)) at
+        (blockText (Block.optionalNested (now (cond .entry)) value (named arrays (now (id .entry)) (bytes "_")) (now («type_id» .entry))))
+        r (now (out .exit)) ⌝ }
 {
     let p = put_when(out, at, cond, value);
     let q = expressions::put_named(

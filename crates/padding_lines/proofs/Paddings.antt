@@ -42,7 +42,8 @@ start-line : (id : Text) {l l₁ : Text} {i r : ℕ} → Put l i (text "size_t "
     → Put l i (lineText 0 (Line.setTo Before.sizeT (startName id) (Expr.size span)) []) r l₁
 start-line id p = like (simp append-assoc) p
 
-pub padded-array : (w : ℕ) (k : Modifier) (m : Arrays) (id type : Text) (element : Element) (e : ElementSize) (n : ArraySize) {l l₁ l₂ l₃ : Text} {i r₁ r₂ r₃ : ℕ}
+pub padded-array : (w : ℕ) (k : Modifier) (m : Arrays) (id type : Text) (element : Element) (e : ElementSize) (n : ArraySize)
+    {l l₁ l₂ l₃ : Text} {i r₁ r₂ r₃ : ℕ}
     → Put l i (text "size_t " ++ (id ++ text "_start_size = span.size();\n")) r₁ l₁
     → Put l₁ r₁ (arrayText m id type element k e n) r₂ l₂
     → Put l₂ r₂ (paddingText id w) r₃ l₃

@@ -1,10 +1,7 @@
 // The block of an array with its padding: what `parse` of cxx.rs appends around an array that has a padded size. Document 01, 'Lowering'; the texts
 // are those of definitions' Blocks.
-use definitions::ArraySize;
+use arrays::ArrayShape;
 use definitions::Arrays;
-use definitions::ElementSize;
-use definitions::Modifier;
-use elements::Element;
 ghost use Rattle.definitions.specs.Blocks.{Block};
 ghost use Rattle.text.specs.Put.{Put};
 ghost use Rattle.stream.specs.Stream.{blockText};
@@ -43,25 +40,15 @@ pub fn put_padded_array(
     arrays: Arrays,
     id: &[u8],
     type_id: &[u8],
-    element: Element,
-    modifier: Modifier,
-    element_size: ElementSize,
-    array_size: ArraySize,
+    shape: ArrayShape,
 ) -> usize
-    requires { ⌜ ProductFits «element_size» «array_size» ⌝ }
-    ensures { λ r. ⌜ Put (now (out .entry)) at (blockText (Block.paddedArray padding modifier 64 (arrayOf arrays (now (id .entry)) (now («type_id» .entry)) element «element_size» «array_size»))) r (now (out .exit)) ⌝ }
+    requires { ⌜ ProductFits (shape .«element_size») (shape .«array_size») ⌝ }
+    ensures { λ r. ⌜ Put (now (out .entry)) at
+        (blockText (Block.paddedArray padding (shape .modifier) 64
+        (arrayOf arrays (now (id .entry)) (now («type_id» .entry)) (shape .element) (shape .«element_size») (shape .«array_size»))))
+        r (now (out .exit)) ⌝ }
 {
     let p = text::put_name(out, at, b"size_t ", id, b"_start_size = span.size();\n");
-    let q = arrays::put_array(
-        out,
-        p,
-        arrays,
-        id,
-        type_id,
-        element,
-        modifier,
-        element_size,
-        array_size,
-    );
+    let q = arrays::put_array(out, p, arrays, id, type_id, shape);
     put_padding(out, q, id, padding)
 }

@@ -1,3 +1,3 @@
-pub mod BitFields
 pub mod Others
+pub mod Turns
 pub mod Drives

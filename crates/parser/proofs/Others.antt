@@ -1,186 +1,178 @@
--- `parse` of a field that is no bit field: what it emits, behind what `check_code` comes to.
+-- A field that is no bit field: what it emits, behind what `check_code` comes to; and `done`.
 -- Assumes nothing.
 use mathlib.Core.Bool.{Bool, true, false}
-use mathlib.Core.List.{List, [], _∷_, _++_}
+use mathlib.Core.List.{List, []}
 use mathlib.Core.Path.{_≡_, refl, sym, ap, _∙_, subst}
-use Prim.Native.Nat.{ℕ, _+_, _<_, _^_}
+use Prim.Native.Nat.{ℕ, _<_, _^_}
 use native.Mathlib.Omega.{arith}
 use lib.ListN.{length}
+use borrow.Author.Tests.{eq-eqb, ne-eqb}
 use Rattle.definitions.specs.Bytes.{Text, text}
-use Rattle.definitions.specs.Sizes.{Annotated}
 use Rattle.definitions.specs.Blocks.{Bit}
-use Rattle.definitions.specs.FieldParser.{Setting, Emit, sizeBacking, isBit, parseUnchecked}
-use Rattle.definitions.specs.declared.Arrays.{Arrays}
-use Rattle.definitions.specs.declared.EndiannessValue.{EndiannessValue}
+use Rattle.definitions.specs.declared.Options.{Options}
 use Rattle.definitions.specs.declared.Part.{Part}
 use Rattle.definitions.specs.declared.Refusal.{Refusal}
 use Rattle.definitions.specs.declared.Verdict.{Verdict}
 use Rattle.text.specs.Put.{Put}
 use Rattle.text.proofs.Puts.{still}
-use Rattle.stream.specs.Stream.{Result, refuses, writes, ahead, blockText, flushing, emitting, calm, stream}
+use Rattle.stream.specs.Stream.{blockText, calm}
 use Rattle.stream.specs.Stream as flow
-use Rattle.stream.proofs.Steps.{stream-no}
-use Rattle.chunk_lines.specs.declared.Held.{Held}
-use Rattle.chunks.specs.declared.State.{State}
-use Rattle.chunks.specs.declared.Checked.{Checked}
-use Rattle.chunks.specs.Steps.{Long, codeChecked}
-use Rattle.chunks.proofs.Advances.{onVerdict, code-flushes, code-calms, code-long}
-use Rattle.chunks.proofs.Within.{Within, within-calm}
-use Rattle.emits.specs.BlockOf.{blockOf, BlockFits, emitOf, EmitFits}
+use Rattle.emits.specs.BlockOf.{blockOf, BlockFits, EmitFits}
 use Rattle.emits.specs.declared.BlockAt.{BlockAt}
 use Rattle.emits.specs.declared.EmitAt.{EmitAt}
-use Rattle.tables.specs.Tables.{Tables, tablesOf, fieldsOf}
-use Rattle.emits.specs.Target.{settingAt, restAt, fieldIn, annotatedAt, Fine}
-use Rattle.emits.proofs.Rests.{rest-step}
-use Rattle.fields.specs.Parsed.{parsedAt}
-use Rattle.fields.proofs.Answers.{answer-agrees, answer-fits}
+use Rattle.plans.specs.Planned.{Said, stops}
+use Rattle.plans.specs.Told.{Advance, flushVerdict, onShift, saidAdvance, otherAdvance}
+use Rattle.chunks.specs.declared.State.{State}
+use Rattle.chunks.specs.declared.Step.{Step}
+use Rattle.chunks.specs.Steps.{seen, codeVerdict, Stepped}
+use Rattle.chunks.proofs.Codes.{code-flushes}
 use Rattle.parser.specs.declared.Lowered.{Lowered}
-use Rattle.parser.specs.Driver.{seen, flushVerdict, ifPasses, emitText, spelt, Turn, emits, Emitted, from, speltFrom, Parsed}
-use Rattle.parser.proofs.BitFields.{within, sums, going-by}
+use Rattle.parser.specs.Driver.{saidIn, misplaced, isRefused, answerBy, doneBy}
 
-pub nothing-ahead : (r : Result) → r ≡ ahead [] r
-nothing-ahead (refuses why) = refl
-nothing-ahead (writes t) = refl
+-- ---- what it emits
 
-spelt-no : (c : Setting) (a : Annotated) (later : List Annotated) (s : flow.State) → isBit c (a .field) ≡ false
-    → spelt c s (a ∷ later) ≡ ifPasses (flushVerdict (s .pending) (s .chunk)) (emitText (parseUnchecked c (s .shift) a later) (spelt c (calm s) later))
-unfolding spelt
-spelt-no c a later s e = rw (e, spelt)
+abbrev quiet : State → State
+quiet t = record { shift = t .shift; nr = t .nr; pending = false }
 
--- the verdict of `check_code`, from what it does to what follows
-verdict-of : (p : Bool) (bs : List Bit) (v : Verdict) → flushing p bs (writes []) ≡ onVerdict v (writes []) → flushVerdict p bs ≡ v
-verdict-of false bs Verdict.Pass e = refl
-verdict-of false bs (Verdict.Refuse why) e = absurd (let z : _≡_ {A = ℕ} 0 1 = cc in omega arith)
-verdict-of true [] Verdict.Pass e = refl
-verdict-of true [] (Verdict.Refuse why) e = absurd (let z : _≡_ {A = ℕ} 0 1 = cc in omega arith)
-verdict-of true (b ∷ bs) Verdict.Pass e = absurd (let z : _≡_ {A = ℕ} 0 1 = cc in omega arith)
-verdict-of true (b ∷ bs) (Verdict.Refuse why) e = ap (λ (x : Refusal). Verdict.Refuse x) (let z : Refusal.OpenChunk ≡ why = cc in z)
+module _ (o : Options) (s : Text) (t : State) (e : EmitAt) where
+  abbrev Says : Text → ℕ → Step → Text → Type 0
+  Says out at r left = (bits : Part → ℕ) (bs : List Bit) → Stepped t (saidAdvance (calm (seen t bs)) (saidIn o s bits e)) bs out at r left
 
-module _ (s rows values fields : List ℕ) (i n : ℕ) where
-  abbrev tables : Tables
-  tables = tablesOf s rows values fields
+  pub block-fits : EmitFits e → {b : BlockAt} → e ≡ EmitAt.Appends b → BlockFits b
+  block-fits z h = subst EmitFits h z
 
-  abbrev rest : ℕ → List Annotated
-  rest = restAt tables i n
+  with-emit : {x : EmitAt} → e ≡ x → {out left : Text} {at : ℕ} {r : Step}
+      → ((bits : Part → ℕ) (bs : List Bit) → Stepped t (saidAdvance (calm (seen t bs)) (saidIn o s bits x)) bs out at r left) → Says out at r left
+  with-emit h {out} {left} {at} {r} d bits bs =
+      subst (λ (x : EmitAt). Stepped t (saidAdvance (calm (seen t bs)) (saidIn o s bits x)) bs out at r left) (sym h) (d bits bs)
 
-  abbrev here : ℕ → Annotated
-  here = annotatedAt tables i n
+  pub says-block : {b : BlockAt} → e ≡ EmitAt.Appends b → {out left : Text} {at p : ℕ}
+      → ((bits : Part → ℕ) → Put out at (blockText (blockOf s (text "payload") (o .endianness) (o .arrays) bits b)) p left)
+      → Says out at (record { verdict = Verdict.Pass; at = p; state = quiet t }) left
+  says-block h put = with-emit h (λ bits bs. record {
+    advances = record { verdict-is = refl; wrote = put bits; goes-on = λ v. refl };
+    stays = λ why v. absurd (let z : _≡_ {A = ℕ} 0 1 = cc in omega arith);
+  })
 
-  module _ (order : EndiannessValue) (m : Arrays) (k : ℕ) where
-    abbrev c : Setting
-    c = settingAt tables i n order m
+  pub says-none : e ≡ EmitAt.Silent → (out : Text) (at : ℕ) → length out < 2 ^ 63
+      → Says out at (record { verdict = Verdict.Pass; at = at; state = quiet t }) out
+  says-none h out at room = with-emit h (λ bits bs. record {
+    advances = record { verdict-is = refl; wrote = still out at room; goes-on = λ v. refl };
+    stays = λ why v. absurd (let z : _≡_ {A = ℕ} 0 1 = cc in omega arith);
+  })
 
-    -- ---- what the field emits
+  pub says-refusal : {why : Refusal} → e ≡ EmitAt.Refuses why → (out : Text) (at : ℕ) → length out < 2 ^ 63
+      → Says out at (record { verdict = Verdict.Refuse why; at = at; state = t }) out
+  says-refusal h out at room = with-emit h (λ bits bs. record {
+    advances = record { verdict-is = refl; wrote = still out at room; goes-on = λ v. absurd (let z : _≡_ {A = ℕ} 0 1 = cc in omega arith) };
+    stays = λ why v. refl;
+  })
 
-    module _ (shift : ℕ) {e : EmitAt} (u : e ≡ parsedAt tables i n k shift order) where
-      abbrev backing : Part → ℕ
-      backing id = sizeBacking s id (fieldsOf tables i n)
+-- ---- 11
 
-      emits-as : {x : EmitAt} → e ≡ x → emits tables i n order m k shift ≡ emitOf s (text "payload") order m backing x
-      emits-as h =
-          sym (answer-agrees s rows values fields i n k shift order m)
-          ∙ ap (emitOf s (text "payload") order m backing) (sym u ∙ h)
+module _ (shift : ℕ) {b : Bool} where
+  pub must-open : b ≡ true → (shift ≡ 0 → ⊥) → true ≡ misplaced b shift
+  must-open e h = rw (e, ne-eqb _ _ h)
 
-      pub block-fits : (k < n) × Fine tables i n → {b : BlockAt} → e ≡ EmitAt.Appends b → BlockFits b
-      block-fits z h = subst EmitFits (sym u ∙ h) (answer-fits s rows values fields i n k shift order (z .1) (z .0))
+  pub must-closed : b ≡ true → shift ≡ 0 → false ≡ misplaced b shift
+  must-closed e h = rw (e, eq-eqb _ _ h)
 
-      pub emits-block : {b : BlockAt} → e ≡ EmitAt.Appends b → {out left : Text} {at p : ℕ}
-          → ((bits : Part → ℕ) → Put out at (blockText (blockOf s (text "payload") order m bits b)) p left)
-          → Emitted tables i n order m k shift out at (record { verdict = Verdict.Pass; at = p }) left
-      emits-block {b} h put = record {
-        lines = blockText (blockOf s (text "payload") order m backing b);
-        wrote = put backing;
-        passes = λ v next. ap (λ (x : Emit). emitting x next) (emits-as h);
-        stops = λ why v next. absurd (let z : _≡_ {A = ℕ} 0 1 = cc in omega arith);
-        spells = λ v next. ap (λ (x : Emit). emitText x next) (emits-as h);
-        spelt-all = λ why v next. absurd (let z : _≡_ {A = ℕ} 0 1 = cc in omega arith);
-      }
+  pub may-open : b ≡ false → false ≡ misplaced b shift
+  may-open e = rw e
 
-      pub emits-none : e ≡ EmitAt.Silent → (out : Text) (at : ℕ) → length out < 2 ^ 63
-          → Emitted tables i n order m k shift out at (record { verdict = Verdict.Pass; at = at }) out
-      emits-none h out at room = record {
-        lines = [];
-        wrote = still out at room;
-        passes = λ v next. ap (λ (x : Emit). emitting x next) (emits-as h) ∙ nothing-ahead next;
-        stops = λ why v next. absurd (let z : _≡_ {A = ℕ} 0 1 = cc in omega arith);
-        spells = λ v next. ap (λ (x : Emit). emitText x next) (emits-as h);
-        spelt-all = λ why v next. absurd (let z : _≡_ {A = ℕ} 0 1 = cc in omega arith);
-      }
+-- ---- behind `check_code`
 
-      pub emits-refusal : {why : Refusal} → e ≡ EmitAt.Refuses why → (out : Text) (at : ℕ) → length out < 2 ^ 63
-          → Emitted tables i n order m k shift out at (record { verdict = Verdict.Refuse why; at = at }) out
-      emits-refusal {why} h out at room = record {
-        lines = [];
-        wrote = still out at room;
-        passes = λ v next. absurd (let z : _≡_ {A = ℕ} 0 1 = cc in omega arith);
-        stops = λ because v next. ap (λ (x : Emit). emitting x next) (emits-as h) ∙ ap refuses (let z : why ≡ because = cc in z);
-        spells = λ v next. absurd (let z : _≡_ {A = ℕ} 0 1 = cc in omega arith);
-        spelt-all = λ because v next. ap (λ (x : Emit). emitText x next) (emits-as h);
-      }
+module _ (s : flow.State) (must : Bool) (said : Said) where
+  abbrev by-flush : (v : Verdict) → Advance
+  by-flush v = elim v [
+    | Verdict.Pass ↦ saidAdvance (calm s) (onShift (s .shift) must said)
+    | Verdict.Refuse why ↦ record { verdict = Verdict.Refuse why; lines = []; after = s }
+  ]
 
-    -- ---- behind `check_code`
+  other-by : {v : Verdict} → flushVerdict (s .pending) (s .chunk) ≡ v → otherAdvance s must said ≡ by-flush v
+  unfolding otherAdvance
+  other-by e = ap by-flush e
 
-    module _ {t : State}
-        (eb : isBit c (fieldIn tables i n k) ≡ false) {q : Checked} (ec : q ≡ codeChecked t) (kinds : List Held)
-        (turn : Turn tables i n m k t kinds) where
-      abbrev next : Result
-      next = stream c (calm (seen m s t kinds)) (rest (k + 1))
+  shift-by : {b : Bool} → misplaced must (s .shift) ≡ b → onShift (s .shift) must said ≡ (elim b [ true ↦ stops Refusal.OctetBoundary | false ↦ said ])
+  unfolding onShift
+  shift-by e = ap (λ (b : Bool). elim b as (λ _. Said) [ true ↦ stops Refusal.OctetBoundary | false ↦ said ]) e
 
-      streams : {v : Verdict} → q .verdict ≡ v → from tables i n order m k k t kinds
-          ≡ onVerdict v (emitting (emits tables i n order m k (t .shift)) next)
-      streams e =
-          ap (stream c (seen m s t kinds)) (rest-step s rows values fields i n k (turn .inside))
-          ∙ stream-no c (here k) (rest (k + 1)) (seen m s t kinds) eb
-          ∙ code-flushes m s (text "payload") t kinds (emitting (emits tables i n order m k (t .shift)) next)
-          ∙ ap (λ (x : Verdict). onVerdict x (emitting (emits tables i n order m k (t .shift)) next))
-          (ap (λ (x : Checked). x .verdict) (sym ec) ∙ e)
+module _ (o : Options) (s : Text) (t : State) (len : ℕ) (must : Bool) (e : EmitAt) {v : Verdict} (ev : v ≡ codeVerdict (t .pending) len) where
+  abbrev Emits : Text → ℕ → Step → Text → Type 0
+  Emits out at r left = (bits : Part → ℕ) (bs : List Bit) → length bs ≡ len → Stepped t (otherAdvance (seen t bs) must (saidIn o s bits e)) bs out at r left
 
-      abbrev text-behind : Text
-      text-behind = spelt c (calm (seen m s t kinds)) (rest (k + 1))
+  flushed-as : (bs : List Bit) → length bs ≡ len → {x : Verdict} → v ≡ x → flushVerdict (t .pending) bs ≡ x
+  flushed-as bs l h = sym (code-flushes (t .pending) bs len l) ∙ sym ev ∙ h
 
-      texts : {v : Verdict} → q .verdict ≡ v → speltFrom tables i n order m k k t kinds
-          ≡ ifPasses v (emitText (emits tables i n order m k (t .shift)) text-behind)
-      texts e =
-          ap (spelt c (seen m s t kinds)) (rest-step s rows values fields i n k (turn .inside))
-          ∙ spelt-no c (here k) (rest (k + 1)) (seen m s t kinds) eb
-          ∙ ap (λ (x : Verdict). ifPasses x (emitText (emits tables i n order m k (t .shift)) text-behind))
-          (verdict-of (t .pending) (seen m s t kinds .chunk) (codeChecked t .verdict) (code-flushes m s (text "payload") t kinds (writes []))
-          ∙ ap (λ (x : Checked). x .verdict) (sym ec) ∙ e)
+  refused : (why : Refusal) (bs : List Bit) (x : flow.State) {a : Advance} → a ≡ record { verdict = Verdict.Refuse why; lines = []; after = x }
+      → (out : Text) (at : ℕ) → length out < 2 ^ 63 → Stepped t a bs out at (record { verdict = Verdict.Refuse why; at = at; state = t }) out
+  refused why bs x q out at room =
+      subst (λ (a : Advance). Stepped t a bs out at (record { verdict = Verdict.Refuse why; at = at; state = t }) out) (sym q) (record {
+        advances = record { verdict-is = refl; wrote = still out at room; goes-on = λ w. absurd (let z : _≡_ {A = ℕ} 0 1 = cc in omega arith) };
+        stays = λ because w. refl;
+      })
 
-      calmed : q .verdict ≡ Verdict.Pass → seen m s (q .state) kinds ≡ calm (seen m s t kinds)
-      calmed e = ap (λ (x : Checked). seen m s (x .state) kinds) ec ∙ code-calms m s (text "payload") t kinds (ap (λ (x : Checked). x .verdict) (sym ec) ∙ e)
+  -- 10
+  pub stays-pending : {why : Refusal} → v ≡ Verdict.Refuse why → (out : Text) (at : ℕ) → length out < 2 ^ 63
+      → Emits out at (record { verdict = Verdict.Refuse why; at = at; state = t }) out
+  stays-pending {why} h out at room bits bs l =
+      refused why bs (seen t bs) (other-by (seen t bs) must (saidIn o s bits e) (flushed-as bs l h)) out at room
 
-      -- 10
-      pub other-open : {why : Refusal} → q .verdict ≡ Verdict.Refuse why → (out : Text) (at : ℕ) → length out < 2 ^ 63
-          → Parsed tables i n order m k t kinds out at (record { verdict = Verdict.Refuse why; at = at; state = q .state }) kinds out
-      other-open {why} e out at room = record {
-        lines = [];
-        wrote = still out at room;
-        passes = λ p. absurd (let z : _≡_ {A = ℕ} 0 1 = cc in omega arith);
-        stops = λ because p. streams e ∙ ap refuses (let z : why ≡ because = cc in z);
-        spells = λ p. absurd (let z : _≡_ {A = ℕ} 0 1 = cc in omega arith);
-        spelt-all = λ because p. texts e;
-        going = λ p. absurd (let z : _≡_ {A = ℕ} 0 1 = cc in omega arith);
-      }
+  module _ (h : v ≡ Verdict.Pass) {b : Bool} (eb : b ≡ misplaced must (t .shift)) where
+    said-as : (bits : Part → ℕ) (bs : List Bit) → length bs ≡ len → {x : Bool} → b ≡ x
+        → otherAdvance (seen t bs) must (saidIn o s bits e)
+        ≡ saidAdvance (calm (seen t bs)) (elim x [ true ↦ stops Refusal.OctetBoundary | false ↦ saidIn o s bits e ])
+    said-as bits bs l f =
+        other-by (seen t bs) must (saidIn o s bits e) (flushed-as bs l h)
+        ∙ ap (saidAdvance (calm (seen t bs))) (shift-by (seen t bs) must (saidIn o s bits e) (sym eb ∙ f))
 
-      pub other-goes : q .verdict ≡ Verdict.Pass → {out left : Text} {at : ℕ} {r : Lowered}
-          → Emitted tables i n order m k (t .shift) out at r left
-          → Parsed tables i n order m k t kinds out at (record { verdict = r .verdict; at = r .at; state = q .state }) kinds left
-      other-goes e {r = r} d = record {
-        lines = d .lines;
-        wrote = d .wrote;
-        passes =
-            λ p. streams e ∙ d .passes p next
-            ∙ ap (λ (x : flow.State). ahead (d .lines) (stream c x (rest (k + 1)))) (sym (calmed e));
-        stops = λ why p. streams e ∙ d .stops why p next;
-        spells =
-            λ p. texts e ∙ d .spells p text-behind
-            ∙ ap (λ (x : flow.State). d .lines ++ spelt c x (rest (k + 1))) (sym (calmed e));
-        spelt-all = λ why p. texts e ∙ d .spelt-all why p text-behind;
-        going =
-            λ p. going-by s rows values fields i n order m k (q .state) kinds
-            (subst (λ (x : flow.State). Within x (k + 1) (t .shift)) (sym (calmed e))
-            (within-calm (seen m s t kinds) k (t .shift) (within s rows values fields i n order m k t kinds (turn .going))))
-            (omega (arith, sums s rows values fields i n order m k (turn .inside), turn .going .fits))
-            (subst (λ (x : Checked). Long (x .state) kinds) (sym ec) (code-long t kinds (turn .going .long)));
-      }
+    -- 11
+    pub is-misplaced : b ≡ true → (out : Text) (at : ℕ) → length out < 2 ^ 63
+        → Emits out at (record { verdict = Verdict.Refuse Refusal.OctetBoundary; at = at; state = t }) out
+    is-misplaced f out at room bits bs l = refused Refusal.OctetBoundary bs (calm (seen t bs)) (said-as bits bs l f) out at room
+
+    pub is-placed : b ≡ false → {out left : Text} {at : ℕ} {r : Step} → Says o s t e out at r left → Emits out at r left
+    is-placed f {out} {left} {at} {r} d bits bs l = subst (λ (a : Advance). Stepped t a bs out at r left) (sym (said-as bits bs l f)) (d bits bs)
+
+-- ---- `done`
+
+pub refused-as : {v w : Verdict} {b : Bool} → v ≡ w → b ≡ isRefused w → b ≡ isRefused v
+refused-as e h = h ∙ ap isRefused (sym e)
+
+refused-is : (v : Verdict) (p q : ℕ) → isRefused v ≡ true → _≡_ {A = Lowered} (record { verdict = v; at = p }) (answerBy v p q)
+refused-is Verdict.Pass p q e = let z : _≡_ {A = ℕ} 0 1 = cc in absurd (omega arith)
+refused-is (Verdict.Refuse why) p q e = refl
+
+passed-is : (v : Verdict) (p q : ℕ) → isRefused v ≡ false → _≡_ {A = Lowered} (record { verdict = v; at = q }) (answerBy v p q)
+passed-is Verdict.Pass p q e = refl
+passed-is (Verdict.Refuse why) p q e = let z : _≡_ {A = ℕ} 0 1 = cc in absurd (omega arith)
+
+pub not-refused : (v : Verdict) → isRefused v ≡ false → v ≡ Verdict.Pass
+not-refused Verdict.Pass e = refl
+not-refused (Verdict.Refuse why) e = let z : _≡_ {A = ℕ} 0 1 = cc in absurd (omega arith)
+
+module _ (step : Step) (len at : ℕ) {b : Bool} (eb : b ≡ isRefused (step .verdict)) where
+  by-verdict : (v : Verdict) → isRefused v ≡ true → _≡_ {A = Lowered} (record { verdict = v; at = at }) (elim v [
+    | Verdict.Pass ↦ answerBy (codeVerdict (step .state .pending) len) at (step .at)
+    | Verdict.Refuse why ↦ record { verdict = Verdict.Refuse why; at = at }
+  ])
+  by-verdict Verdict.Pass e = let z : _≡_ {A = ℕ} 0 1 = cc in absurd (omega arith)
+  by-verdict (Verdict.Refuse why) e = refl
+
+  pub done-refused : b ≡ true → _≡_ {A = Lowered} (record { verdict = step .verdict; at = at }) (doneBy step len at)
+  done-refused e = by-verdict (step .verdict) (sym eb ∙ e)
+
+  module _ (e : b ≡ false) {q : Verdict} (eq : q ≡ codeVerdict (step .state .pending) len) {d : Bool} (ed : d ≡ isRefused q) where
+    checked : answerBy q at (step .at) ≡ doneBy step len at
+    checked =
+        ap (λ (v : Verdict). answerBy v at (step .at)) eq
+        ∙ ap (λ (v : Verdict). elim v as (λ _. Lowered) [
+          | Verdict.Pass ↦ answerBy (codeVerdict (step .state .pending) len) at (step .at)
+          | Verdict.Refuse why ↦ record { verdict = Verdict.Refuse why; at = at }
+        ]) (sym (not-refused (step .verdict) (sym eb ∙ e)))
+
+    pub done-open : d ≡ true → _≡_ {A = Lowered} (record { verdict = q; at = at }) (doneBy step len at)
+    done-open f = refused-is q at (step .at) (sym ed ∙ f) ∙ checked
+
+    pub done-passes : d ≡ false → _≡_ {A = Lowered} (record { verdict = q; at = step .at }) (doneBy step len at)
+    done-passes f = passed-is q at (step .at) (sym ed ∙ f) ∙ checked

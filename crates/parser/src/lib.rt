@@ -1,26 +1,28 @@
-// The driver of `FieldParser` (cxx.rs): `new`, `parse` for each field of the target in order, and `done`. A run's check is written before its first
-// chunk, with the total found by looking ahead over the widths (crate runs); that the lines are those of cxx.rs is the law of crate stream.
-// The target has the index i: its fields are the n whose places the table has from 64 i on, types are looked up in the i rows before. The `if` names of its
-// fields are gathered once (crate conditions). The kinds of the open chunk's fields are the loop's own: a chunk takes them where it closes.
+// The driver of `FieldParser` (cxx.rs) over a plan of the target: `new`, `parse` for each field in order, and `done`. A run's check is written before its
+// first chunk, with the bits that the plan has of the fields behind it; that the lines are those of cxx.rs is the law of the crates stream and plans.
+// The kinds of the open chunk's fields are the loop's own: a chunk takes them where it closes.
 use bit_fields::KindAt;
 use chunk_lines::Held;
 use chunks::State;
 use chunks::Step;
-use definitions::Arrays;
-use definitions::EndiannessValue;
-use definitions::Field;
+use definitions::Options;
+use definitions::Refusal;
 use definitions::Verdict;
 use emits::EmitAt;
+use plans::PlanAt;
+ghost use mathlib.Core.List.{List};
 ghost use mathlib.Core.Path.{_≡_};
-ghost use mathlib.Core.Bool.{false};
-ghost use Prim.Native.Nat.{_+_, _≤_, _<_, _^_};
-ghost use Rattle.definitions.specs.Bytes.{text};
-ghost use Rattle.definitions.specs.FieldParser.{isBit};
-ghost use Rattle.stream.specs.Stream.{widthOf};
-ghost use Rattle.chunks.specs.Steps.{grownState, codeChecked, Closing, ChunkClosed};
-ghost use Rattle.tables.specs.Tables.{Tables, tablesOf};
-ghost use Rattle.emits.specs.Target.{settingAt, restAt, fieldIn, annotatedAt, Fine};
-ghost use Rattle.parser.specs.Driver.{Named, laterAt, Emitted, OtherParsed, doneBy, Lowers};
+ghost use Prim.Native.Nat.{ℕ, _≤_};
+ghost use lib.ListN.{length};
+ghost use Rattle.definitions.specs.Bytes.{Text};
+ghost use Rattle.definitions.specs.Blocks.{Bit};
+ghost use Rattle.definitions.specs.declared.Part.{Part};
+ghost use Rattle.stream.specs.Stream.{fresh, calm};
+ghost use Rattle.emits.specs.BlockOf.{EmitFits};
+ghost use Rattle.plans.specs.Told.{saidAdvance, otherAdvance, tell};
+ghost use Rattle.plans.specs.Plans.{plansFrom, Sound};
+ghost use Rattle.chunks.specs.Steps.{seen, Stepped};
+ghost use Rattle.parser.specs.Driver.{saidIn, misplaced, isAlone, isRefused, doneBy, Tells};
 
 // The answer, and the place behind the lines.
 pub struct Lowered {
@@ -28,296 +30,192 @@ pub struct Lowered {
     pub at: usize,
 }
 
-// ---- `parse`, of a bit field
+// ---- `parse`, of a field that is no bit field
 
-// The state with field k in its chunk.
-fn grow(
-    rec: &[u8],
-    rows: &[u64],
-    values: &[u64],
-    fields: &[usize],
-    i: usize,
-    n: usize,
-    k: usize,
-    t: State,
-    f: Field,
-) -> State
-    requires { let tables : Tables = tablesOf (now rec) (now rows) (now values) (now fields) in ⌜ (k < n) × Fine tables i n ⌝ }
-    requires { let tables : Tables = tablesOf (now rec) (now rows) (now values) (now fields) in ⌜ f ≡ fieldIn tables i n k ⌝ }
-    requires { let tables : Tables = tablesOf (now rec) (now rows) (now values) (now fields) in
-        ⌜ (t .chunk .len < 64) × (t .shift + widthOf (annotatedAt tables i n k) < 2 ^ 64) ⌝ }
-    ensures { λ r. let tables : Tables = tablesOf (now (rec .entry)) (now (rows .entry)) (now (values .entry)) (now (fields .entry)) in
-        ⌜ r ≡ grownState t (widthOf (annotatedAt tables i n k)) ⌝ }
-{
-    let size = annotate::field_size(rec, rows, values, fields, i, n, f);
-    let width = runs::static_width(size);
-    chunks::grow(t, width)
-}
-
-// The chunk with field k is at an octet boundary.
-fn parse_bit_field<'a>(
+// What it emits, where nothing is pending any more.
+fn append<'a>(
     rec: &'a [u8],
     out: &mut [u8],
     at: usize,
-    order: EndiannessValue,
-    m: Arrays,
-    rows: &[u64],
-    values: &[u64],
-    fields: &[usize],
-    i: usize,
-    n: usize,
-    k: usize,
+    options: Options,
     t: State,
-    kinds: [Held; 64],
+    emit: EmitAt,
 ) -> Step
-    requires { let tables : Tables = tablesOf (now rec) (now rows) (now values) (now fields) in ⌜ (k < n) × Fine tables i n ⌝ }
-    requires { let tables : Tables = tablesOf (now rec) (now rows) (now values) (now fields) in
-        ⌜ Closing m (now rec) (text "payload") t kinds (laterAt tables i n order m k t) ⌝ }
-    ensures { λ r. let tables : Tables = tablesOf (now (rec .entry)) (now (rows .entry)) (now (values .entry)) (now (fields .entry)) in
-        ⌜ ChunkClosed m (tables .source) (text "payload") order t kinds (laterAt tables i n order m k t) (now (out .entry)) at r (now (out .exit)) ⌝ }
+    requires { ⌜ EmitFits emit ⌝ }
+    ensures { λ r. let s : Text = now (rec .entry) in
+        ⌜ ((bits : Part → ℕ) (bs : List Bit)
+        → Stepped t (saidAdvance (calm (seen t bs)) (saidIn options s bits emit)) bs (now (out .entry)) at r (now (out .exit))) ⌝ }
 {
-    let later = runs::later_bits(rec, rows, values, fields, i, n, k, t.pending, t.shift);
-    chunks::close(rec, b"payload", out, at, m, order, t, kinds, later)
-}
-
-// ---- `parse`, of any other field
-
-// What field k emits, where nothing is pending.
-fn emit<'a>(
-    rec: &'a [u8],
-    out: &mut [u8],
-    at: usize,
-    order: EndiannessValue,
-    m: Arrays,
-    rows: &[u64],
-    values: &[u64],
-    fields: &[usize],
-    i: usize,
-    n: usize,
-    k: usize,
-    shift: u64,
-) -> Lowered
-    requires { let tables : Tables = tablesOf (now rec) (now rows) (now values) (now fields) in ⌜ (k < n) × Fine tables i n ⌝ }
-    ensures { λ r. let tables : Tables = tablesOf (now (rec .entry)) (now (rows .entry)) (now (values .entry)) (now (fields .entry)) in
-        ⌜ Emitted tables i n order m k shift (now (out .entry)) at r (now (out .exit)) ⌝ }
-{
-    match fields::parse_unchecked(rec, rows, values, fields, i, n, k, shift, order) {
-        EmitAt::Appends(block) => Lowered {
+    let u = State {
+        shift: t.shift,
+        nr: t.nr,
+        pending: false,
+    };
+    match emit {
+        EmitAt::Appends(block) => Step {
             verdict: Verdict::Pass,
-            at: field_lines::put_block(rec, b"payload", out, at, order, m, block),
+            at: field_lines::put_block(rec, b"payload", out, at, options, block),
+            state: u,
         },
-        EmitAt::Silent => Lowered {
+        EmitAt::Silent => Step {
             verdict: Verdict::Pass,
             at,
+            state: u,
         },
-        EmitAt::Refuses(why) => Lowered {
+        EmitAt::Refuses(why) => Step {
             verdict: Verdict::Refuse(why),
             at,
+            state: t,
         },
     }
 }
 
-// It first flushes what is pending.
+// 11: an open chunk, of so many bits.
+fn is_misplaced(aligned: bool, shift: u64) -> bool
+    ensures { λ r. ⌜ r ≡ misplaced aligned shift ⌝ }
+{
+    if aligned {
+        if shift == 0 {
+            return false;
+        }
+        return true;
+    }
+    false
+}
+
+// It first flushes what is pending; the open chunk has `len` fields.
 fn parse_other_field<'a>(
     rec: &'a [u8],
     out: &mut [u8],
     at: usize,
-    order: EndiannessValue,
-    m: Arrays,
-    rows: &[u64],
-    values: &[u64],
-    fields: &[usize],
-    i: usize,
-    n: usize,
-    k: usize,
+    options: Options,
     t: State,
+    len: usize,
+    aligned: bool,
+    emit: EmitAt,
 ) -> Step
-    requires { let tables : Tables = tablesOf (now rec) (now rows) (now values) (now fields) in ⌜ (k < n) × Fine tables i n ⌝ }
-    requires { let tables : Tables = tablesOf (now rec) (now rows) (now values) (now fields) in
-        ⌜ isBit (settingAt tables i n order m) (fieldIn tables i n k) ≡ false ⌝ }
-    ensures { λ r. let tables : Tables = tablesOf (now (rec .entry)) (now (rows .entry)) (now (values .entry)) (now (fields .entry)) in
-        ⌜ OtherParsed tables i n order m k t (now (out .entry)) at r (now (out .exit)) ⌝ }
+    requires { ⌜ EmitFits emit ⌝ }
+    ensures { λ r. let s : Text = now (rec .entry) in
+        ⌜ ((bits : Part → ℕ) (bs : List Bit) → length bs ≡ len
+        → Stepped t (otherAdvance (seen t bs) aligned (saidIn options s bits emit)) bs (now (out .entry)) at r (now (out .exit))) ⌝ }
 {
-    let checked = chunks::check_code(t);
-    let verdict = checked.verdict;
-    let u = checked.state;
-    match verdict {
+    match chunks::check_code(t.pending, len) {
         Verdict::Refuse(why) => Step {
             verdict: Verdict::Refuse(why),
             at,
-            state: u,
+            state: t,
         },
         Verdict::Pass => {
-            let emitted = emit(
-                rec,
-                out,
-                at,
-                order,
-                m,
-                rows,
-                values,
-                fields,
-                i,
-                n,
-                k,
-                t.shift,
-            );
-            let v = emitted.verdict;
-            Step {
-                verdict: v,
-                at: emitted.at,
-                state: u,
+            if is_misplaced(aligned, t.shift) {
+                return Step {
+                    verdict: Verdict::Refuse(Refusal::OctetBoundary),
+                    at,
+                    state: t,
+                };
             }
+            append(rec, out, at, options, t, emit)
         }
     }
 }
 
 // ---- all fields, and the end
 
-// The lines end at p; a refusal has none.
-fn done(t: State, at: usize, p: usize) -> Lowered
-    ensures { λ r. ⌜ r ≡ doneBy (codeChecked t .verdict) at p ⌝ }
+fn is_refused(verdict: Verdict) -> bool
+    ensures { λ r. ⌜ r ≡ isRefused verdict ⌝ }
 {
-    let checked = chunks::check_code(t);
-    let verdict = checked.verdict;
     match verdict {
-        Verdict::Pass => Lowered {
-            verdict: Verdict::Pass,
-            at: p,
-        },
-        Verdict::Refuse(why) => Lowered {
-            verdict: Verdict::Refuse(why),
-            at,
-        },
+        Verdict::Pass => false,
+        Verdict::Refuse(_) => true,
     }
 }
 
-// `parse` for each field, and `done`.
-fn parse<'a>(
+// The last field's step, and a chunk of so many fields that is still open. A refusal has no lines.
+fn done(step: Step, len: usize, at: usize) -> Lowered
+    ensures { λ r. ⌜ r ≡ doneBy step len at ⌝ }
+{
+    let verdict = step.verdict;
+    if is_refused(verdict) {
+        return Lowered { verdict, at };
+    }
+    let t = step.state;
+    let checked = chunks::check_code(t.pending, len);
+    if is_refused(checked) {
+        return Lowered {
+            verdict: checked,
+            at,
+        };
+    }
+    Lowered {
+        verdict: checked,
+        at: step.at,
+    }
+}
+
+// A bit field fills its chunk: none is open, and it has whole octets.
+fn is_alone(len: usize, width: u64) -> bool
+    ensures { λ r. ⌜ r ≡ isAlone len width ⌝ }
+{
+    if len == 0 {
+        if width % 8 == 0 {
+            return true;
+        }
+        return false;
+    }
+    false
+}
+
+// The lines of a target of n fields by its plan. On a refusal, what the fields before wrote stays in the buffer.
+pub fn lower_target<'a>(
     rec: &'a [u8],
     out: &mut [u8],
     at: usize,
-    order: EndiannessValue,
-    m: Arrays,
-    rows: &[u64],
-    values: &[u64],
-    fields: &[usize],
-    i: usize,
+    options: Options,
+    plan: [PlanAt; 64],
     n: usize,
-    starts: &[usize],
-    ends: &[usize],
-    conds: usize,
 ) -> Lowered
-    requires { let tables : Tables = tablesOf (now rec) (now rows) (now values) (now fields) in ⌜ (n ≤ 64) × Fine tables i n ⌝ }
-    requires { ⌜ Named (now values) (now fields) i n (now starts) (now ends) conds ⌝ }
-    ensures { λ r. let tables : Tables = tablesOf (now (rec .entry)) (now (rows .entry)) (now (values .entry)) (now (fields .entry)) in
-        ⌜ Lowers (settingAt tables i n order m) (restAt tables i n 0) (now (out .entry)) at r (now (out .exit)) ⌝ }
+    requires { ⌜ (n ≤ 64) × Sound plan n ⌝ }
+    ensures { λ r. let s : Text = now (rec .entry) in
+        ⌜ ((bits : Part → ℕ) → Tells (tell (options .endianness) fresh (plansFrom options s bits plan 0 n)) (now (out .entry)) at r (now (out .exit))) ⌝ }
 {
     let none = KindAt::Reserved;
     let mut kinds = [Held { kind: none }; 64];
-    let mut t = chunks::new();
-    let mut p = at;
+    let mut c = chunks::empty();
+    let mut step = chunks::new(at);
     let mut k = 0;
     while k < n {
-        let f = references::field_in(values, fields, i, k);
-        if runs::is_bit(rec, rows, i, f) {
-            let desc = f.desc;
-            let kind = field_kinds::kind_of(rec, rows, starts, ends, conds, i, desc);
-            let c = t.chunk;
-            let len = c.len;
-            let h = Held { kind };
-            kinds[len] = h;
-            let u = grow(rec, rows, values, fields, i, n, k, t, f);
-            if u.shift % 8 != 0 {
-                t = u;
+        let verdict = step.verdict;
+        if is_refused(verdict) {
+            return Lowered { verdict, at };
+        }
+        let p = step.at;
+        let t = step.state;
+        let len = c.len;
+        let here = plan[k];
+        match here {
+            PlanAt::Other { aligned, emit } => {
+                step = parse_other_field(rec, out, p, options, t, len, aligned, emit);
                 k += 1;
-            } else {
-                let step = parse_bit_field(
-                    rec,
-                    out,
-                    p,
-                    order,
-                    m,
-                    rows,
-                    values,
-                    fields,
-                    i,
-                    n,
-                    k,
-                    u,
-                    kinds,
-                );
-                let verdict = step.verdict;
-                match verdict {
-                    Verdict::Refuse(why) => {
-                        return Lowered {
-                            verdict: Verdict::Refuse(why),
-                            at,
-                        };
-                    }
-                    Verdict::Pass => {
-                        p = step.at;
-                        let s = step.state;
-                        t = s;
+            }
+            PlanAt::Bit { width, later, kind } => {
+                if is_alone(len, width) {
+                    step = chunks::close_alone(rec, out, p, options, t, width, later, kind);
+                    k += 1;
+                } else {
+                    let h = Held { kind };
+                    kinds[len] = h;
+                    c = chunks::grow(c, t.shift, width);
+                    let u = chunks::opened(t, width);
+                    if u.shift % 8 == 0 {
+                        step = chunks::close(rec, out, p, options, u, c, kinds, later);
+                        c.len = 0;
+                        k += 1;
+                    } else {
+                        step = chunks::stepped(p, u);
                         k += 1;
                     }
                 }
             }
-        } else {
-            let step = parse_other_field(rec, out, p, order, m, rows, values, fields, i, n, k, t);
-            let verdict = step.verdict;
-            match verdict {
-                Verdict::Refuse(why) => {
-                    return Lowered {
-                        verdict: Verdict::Refuse(why),
-                        at,
-                    };
-                }
-                Verdict::Pass => {
-                    p = step.at;
-                    let s = step.state;
-                    t = s;
-                    k += 1;
-                }
-            }
         }
     }
-    done(t, at, p)
-}
-
-// The lines of the target behind refusals 1 to 9. On a refusal, what the fields before wrote stays in the buffer.
-pub fn lower_target(
-    rec: &[u8],
-    out: &mut [u8],
-    at: usize,
-    order: EndiannessValue,
-    m: Arrays,
-    rows: &[u64],
-    values: &[u64],
-    fields: &[usize],
-    i: usize,
-    n: usize,
-) -> Lowered
-    requires { let tables : Tables = tablesOf (now rec) (now rows) (now values) (now fields) in ⌜ (n ≤ 64) × Fine tables i n ⌝ }
-    ensures { λ r. let tables : Tables = tablesOf (now (rec .entry)) (now (rows .entry)) (now (values .entry)) (now (fields .entry)) in
-        ⌜ Lowers (settingAt tables i n order m) (restAt tables i n 0) (now (out .entry)) at r (now (out .exit)) ⌝ }
-{
-    let mut starts = [0usize; 64];
-    let mut ends = [0usize; 64];
-    let conds = conditions::conditions(values, fields, i, n, &mut starts, &mut ends);
-    parse(
-        rec,
-        out,
-        at,
-        order,
-        m,
-        rows,
-        values,
-        fields,
-        i,
-        n,
-        &starts,
-        &ends,
-        conds,
-    )
+    done(step, c.len, at)
 }

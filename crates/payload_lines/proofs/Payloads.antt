@@ -37,7 +37,8 @@ module _ (before behind x : Text) (m : Modifier) {l l₁ : Text} {i r : ℕ} whe
   size-more n e p = rw e p
 
 module _ (x s : Text) (m : Modifier) where
-  pub sized-payload : {l l₁ l₂ l₃ l₄ : Text} {i r₁ r₂ r₃ r₄ : ℕ} → Put l i (text "if (span.size() < " ++ exprText (actualSize m s) (text ") return false;\n")) r₁ l₁
+  pub sized-payload : {l l₁ l₂ l₃ l₄ : Text} {i r₁ r₂ r₃ r₄ : ℕ}
+      → Put l i (text "if (span.size() < " ++ exprText (actualSize m s) (text ") return false;\n")) r₁ l₁
       → Put l₁ r₁ x r₂ l₂
       → Put l₂ r₂ (text " = span.subrange(0, " ++ exprText (actualSize m s) (text ");\n")) r₃ l₃
       → Put l₃ r₃ (text "span.skip(" ++ exprText (actualSize m s) (text ");\n")) r₄ l₄

@@ -20,7 +20,9 @@ fn put_changed_size(
     n: u64,
     behind: &[u8],
 ) -> usize
-    ensures { λ r. ⌜ Put (now (out .entry)) at (changedSize (now (before .entry)) (named arrays (now (word .entry)) (bytes "_size_")) (now (sign .entry)) n (now (behind .entry))) r (now (out .exit)) ⌝ }
+    ensures { λ r. ⌜ Put (now (out .entry)) at
+        (changedSize (now (before .entry)) (named arrays (now (word .entry)) (bytes "_size_")) (now (sign .entry)) n (now (behind .entry)))
+        r (now (out .exit)) ⌝ }
 {
     let p = text::put(out, at, before);
     let q = expressions::put_named(out, p, b"(", arrays, word, b"_size_", sign);
@@ -38,7 +40,9 @@ fn put_actual_size(
     modifier: Modifier,
     behind: &[u8],
 ) -> usize
-    ensures { λ r. ⌜ Put (now (out .entry)) at (now (before .entry) ++ exprText (actualSize modifier (named arrays (now (word .entry)) (bytes "_size_"))) (now (behind .entry))) r (now (out .exit)) ⌝ }
+    ensures { λ r. ⌜ Put (now (out .entry)) at
+        (now (before .entry) ++ exprText (actualSize modifier (named arrays (now (word .entry)) (bytes "_size_"))) (now (behind .entry)))
+        r (now (out .exit)) ⌝ }
 {
     match modifier {
         Modifier::None => expressions::put_named(out, at, before, arrays, word, b"_size_", behind),
@@ -55,7 +59,9 @@ pub fn put_sized_payload(
     word: &[u8],
     modifier: Modifier,
 ) -> usize
-    ensures { λ r. ⌜ Put (now (out .entry)) at (blockText (Block.sizedPayload (named arrays (now (word .entry)) (bytes "_")) (named arrays (now (word .entry)) (bytes "_size_")) modifier)) r (now (out .exit)) ⌝ }
+    ensures { λ r. ⌜ Put (now (out .entry)) at
+        (blockText (Block.sizedPayload (named arrays (now (word .entry)) (bytes "_")) (named arrays (now (word .entry)) (bytes "_size_")) modifier))
+        r (now (out .exit)) ⌝ }
 {
     let p = put_actual_size(
         out,

@@ -156,7 +156,7 @@ module _ (s : List ℕ) (d : DeclDesc) (at base : ℕ) (v f : List ℕ) where
     unfolding fieldsBehind upToBehind
     behind-struct h = record { answer = rw (h, fieldsBehind) (k .answer); numbers = rw (h, upToBehind) (k .numbers); places = rw (h, upToBehind) (k .places) }
 
-length-values : (v : List ℕ) (xs : List Field) → length (withValues v xs) ≡ length v
+pub length-values : (v : List ℕ) (xs : List Field) → length (withValues v xs) ≡ length v
 length-values v [] = refl
 length-values v (x ∷ xs) = length-values (sets v (x .key / 16 * 17) (fieldWords x)) xs ∙ length-sets v (x .key / 16 * 17) (fieldWords x)
 

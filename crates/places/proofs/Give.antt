@@ -20,6 +20,7 @@ use Rattle.tables.proofs.Entries.{field-same, decl-same}
 use Rattle.tables.proofs.Again.{getD-before, here-again, decl-again, count-again}
 use Rattle.places.specs.Places.{fieldKeys, withValues, withRow, given, withDecl, withFields, tablesFrom, upToBehind}
 use Rattle.places.proofs.Ends.{Ends, decl-ends}
+use Rattle.places.proofs.Filling.{length-values}
 use Rattle.places.proofs.Keys.{Apart, apart-from, Follow, behind-follow}
 
 -- ---- what the tables hold
@@ -104,7 +105,9 @@ tables-hold s (suc fuel) i at t ds e = by (declAt s at) refl e (tables-hold s fu
     on-fields d p n noFields ef h ih = absurd (let v : _≡_ {A = ℕ} 0 1 = cc in omega arith)
 
     by : (g : DeclRead) → declAt s at ≡ g
-        → onDecl g noDeclarations (λ d p. onFields (fieldsBehind s (d .desc) p) noDeclarations λ xs q. withDeclaration (record { decl = d; fields = xs }) (tail (ltb q (length s)) q)) ≡ declarationsAre ds
+        → onDecl g noDeclarations (λ d p.
+        onFields (fieldsBehind s (d .desc) p) noDeclarations λ xs q. withDeclaration (record { decl = d; fields = xs }) (tail (ltb q (length s)) q))
+        ≡ declarationsAre ds
         → Ih
         → Hold s t i at ds (onDecl g t λ d p.
         onFields (fieldsBehind s (d .desc) p) (withFields t i (upToBehind s (d .desc) p)) λ xs q. filled (ltb q (length s)) q (next d p xs))
@@ -170,10 +173,6 @@ apart-order low end (x ∷ xs) (Apart.more h a) = omega (arith, apart-order (x .
 spaced-order : (low end : ℕ) (ds : List Declaration) → Spaced low ds end → low ≤ end
 spaced-order low end [] (Spaced.done h) = h
 spaced-order low end (d ∷ ds) (Spaced.more mid a p) = omega (arith, apart-order low mid (d .fields) a, spaced-order mid end ds p)
-
-length-values : (v : List ℕ) (xs : List Field) → length (withValues v xs) ≡ length v
-length-values v [] = refl
-length-values v (x ∷ xs) = length-values (sets v (x .key / 16 * 17) (fieldWords x)) xs ∙ length-sets v (x .key / 16 * 17) (fieldWords x)
 
 values-below : (v : List ℕ) (low end : ℕ) (xs : List Field) → Apart low xs end → Same (low / 16 * 17) (withValues v xs) v
 values-below v low end [] a k h = refl

@@ -21,10 +21,10 @@ fn fill_fields(
     rec: &[u8],
     at: usize,
     values: &mut [u64],
-    fields: &mut [usize],
+    fields: &mut [u16],
     base: usize,
 ) -> FieldsRead
-    requires { ⌜ base + length (now rec) < 2 ^ 64 ⌝ }
+    requires { ⌜ (base + length (now rec) < 2 ^ 64) × (length (now rec) ≤ 16384) ⌝ }
     ensures { λ r. let s : Text = now (rec .entry) in
         ⌜ Filled (fieldsAt s (length s) at) (fieldsUpTo s (length s) at) (now (values .entry)) (now (fields .entry)) base r
         (now (values .exit)) (now (fields .exit)) ⌝ }
@@ -52,10 +52,10 @@ fn fill_behind(
     desc: DeclDesc,
     at: usize,
     values: &mut [u64],
-    fields: &mut [usize],
+    fields: &mut [u16],
     base: usize,
 ) -> FieldsRead
-    requires { ⌜ base + length (now rec) < 2 ^ 64 ⌝ }
+    requires { ⌜ (base + length (now rec) < 2 ^ 64) × (length (now rec) ≤ 16384) ⌝ }
     ensures { λ r. let s : Text = now (rec .entry) in
         ⌜ Filled (fieldsBehind s desc at) (upToBehind s desc at) (now (values .entry)) (now (fields .entry)) base r
         (now (values .exit)) (now (fields .exit)) ⌝ }
@@ -86,7 +86,7 @@ pub fn fill(
     at: usize,
     rows: &mut [u64],
     values: &mut [u64],
-    fields: &mut [usize],
+    fields: &mut [u16],
 ) -> DeclsRead
     requires { ⌜ length (now rec) ≤ 16384 ⌝ }
     ensures { λ r. ⌜ Read (now (rec .entry)) at (now (rows .entry)) (now (values .entry)) (now (fields .entry)) r

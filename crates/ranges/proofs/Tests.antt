@@ -22,6 +22,10 @@ use Rattle.definitions.specs.declared.Decl.{Decl}
 use Rattle.tables.proofs.Walks.{length-declarations, length-fields, any-fields-start, any-fields-end, any-fields-found, any-fields-turn, any-declarations-end, any-declarations-found, any-declarations-turn, any-declarations-false}
 use Rattle.ranges.specs.Ranges.{bare, badField, badNumbers}
 
+pub neither : (a b : Bool) → a || b ≡ false → (a ≡ false) × (b ≡ false)
+neither true b e = absurd (let z : _≡_ {A = ℕ} 0 1 = cc in omega arith)
+neither false b e = (refl, e)
+
 -- ---- 3
 
 -- a declaration with more than 64 fields
@@ -53,15 +57,10 @@ module _ (c : List ℕ) (n : ℕ) where
 
   -- where 3 is not met
   module _ (few : tooMany (bare c n) ≡ false) where
-    split : (a b : Bool) → a || b ≡ false → (a ≡ false) × (b ≡ false)
-    split false false e = (refl, refl)
-    split false true e = (refl, e)
-    split true b e = absurd (let z : _≡_ {A = ℕ} 0 1 = cc in omega arith)
-
     pub few-declarations : n ≤ 32
     unfolding tooMany
     few-declarations =
-        ltb-false 32 n (sym (ap (ltb 32) (length-declarations c [] [] 0 n)) ∙ split (ltb 32 (length (bare c n))) (any long (bare c n)) few .0)
+        ltb-false 32 n (sym (ap (ltb 32) (length-declarations c [] [] 0 n)) ∙ neither (ltb 32 (length (bare c n))) (any long (bare c n)) few .0)
 
     pub few-index : (i : ℕ) → i < n → i ≤ 32
     few-index i h = let k : n ≤ 32 = few-declarations in omega arith
@@ -71,7 +70,7 @@ module _ (c : List ℕ) (n : ℕ) where
     few-fields i h =
         ltb-false 64 (countHere c i)
         (sym (ap (ltb 64) (length-fields [] [] (i * 64) (countHere c i)))
-        ∙ any-declarations-false long c [] [] n (split (ltb 32 (length (bare c n))) (any long (bare c n)) few .1) i h)
+        ∙ any-declarations-false long c [] [] n (neither (ltb 32 (length (bare c n))) (any long (bare c n)) few .1) i h)
 
 -- ---- 6
 

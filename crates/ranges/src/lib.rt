@@ -128,7 +128,7 @@ fn bad_decl(desc: DeclDesc) -> bool
 }
 
 // A number of n fields, whose places the table has from `base` on.
-fn bad_fields(values: &[u64], fields: &[usize], base: usize, n: usize) -> bool
+fn bad_fields(values: &[u64], fields: &[u16], base: usize, n: usize) -> bool
     requires { ⌜ base + n ≤ 4096 ⌝ }
     ensures { λ r. ⌜ r ≡ any badField (fieldsFrom (now (values .entry)) (now (fields .entry)) base n) ⌝ }
 {
@@ -146,7 +146,7 @@ fn bad_fields(values: &[u64], fields: &[usize], base: usize, n: usize) -> bool
 }
 
 // A number of the declaration with the index i, or of its fields.
-fn bad_numbers(rows: &[u64], values: &[u64], fields: &[usize], i: usize) -> bool
+fn bad_numbers(rows: &[u64], values: &[u64], fields: &[u16], i: usize) -> bool
     requires { ⌜ i ≤ 32 ⌝ }
     requires { ⌜ countHere (now rows) i ≤ 64 ⌝ }
     ensures { λ r. ⌜ r ≡ badNumbers (declarationIn (now (rows .entry)) (now (values .entry)) (now (fields .entry)) i) ⌝ }
@@ -161,7 +161,7 @@ fn bad_numbers(rows: &[u64], values: &[u64], fields: &[usize], i: usize) -> bool
 }
 
 // A number of the first n declarations, where 3 is not met.
-pub fn out_of_range(rows: &[u64], values: &[u64], fields: &[usize], n: usize) -> bool
+pub fn out_of_range(rows: &[u64], values: &[u64], fields: &[u16], n: usize) -> bool
     requires { ⌜ tooMany (bare (now rows) n) ≡ false ⌝ }
     ensures { λ r. ⌜ r ≡ outOfRange (declarationsFrom (now (rows .entry)) (now (values .entry)) (now (fields .entry)) 0 n) ⌝ }
 {

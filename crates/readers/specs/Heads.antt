@@ -1,13 +1,21 @@
--- The head behind its `endian` line (document 01, 'The record'), the rest of `headAt`.
+-- Pieces of the definitions that the contracts of this crate name (document 01, 'The record'): a declaration with a parent, by its kind, and the
+-- rest of `headAt` behind its `endian` line.
 -- Assumes nothing.
 use Prim.Native.Nat.{ℕ}
 use Rattle.definitions.specs.Bytes.{Text, text}
 use Rattle.definitions.specs.Record.{nameLine, onName, onArrays}
+use Rattle.definitions.specs.declared.DeclDesc.{DeclDesc}
 use Rattle.definitions.specs.declared.EndiannessValue.{EndiannessValue}
 use Rattle.definitions.specs.declared.HeadRead.{HeadRead}
+use Rattle.definitions.specs.declared.MaybePart.{MaybePart}
+use Rattle.readers.specs.declared.Parented.{Parented}
+
+abbrev pub parented : Parented → MaybePart → DeclDesc
+parented Parented.Packet = DeclDesc.Packet
+parented Parented.Struct = DeclDesc.Struct
 
 abbrev pub targetAt : Text → ℕ → EndiannessValue → HeadRead
 targetAt s at endianness =
     onName (nameLine s at (text "target=")) HeadRead.Wrong λ target q.
     onArrays s q HeadRead.Wrong λ arrays r.
-    HeadRead.Is (record { endianness = endianness; target = target; arrays = arrays }) r
+    HeadRead.Is (record { options = record { endianness = endianness; arrays = arrays }; target = target }) r

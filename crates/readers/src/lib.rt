@@ -19,9 +19,10 @@ use definitions::MaybePart;
 use definitions::MaybePartRead;
 use definitions::NameRead;
 use definitions::NumberRead;
+use definitions::Options;
 ghost use mathlib.Core.Path.{_≡_};
-ghost use Rattle.definitions.specs.Record.{condAt, fieldAt, packetAt, structAt, enumAt, checksumDeclAt, customAt, declAt, headAt};
-ghost use Rattle.readers.specs.Heads.{targetAt};
+ghost use Rattle.definitions.specs.Record.{condAt, fieldAt, parentedAt, enumAt, checksumDeclAt, customAt, declAt, headAt};
+ghost use Rattle.readers.specs.Heads.{parented, targetAt};
 
 // `if=-`, or `if=NAME` and `is=NUMBER`.
 fn cond_at(rec: &[u8], at: usize) -> CondRead
@@ -59,29 +60,15 @@ pub fn field_at(rec: &[u8], at: usize) -> FieldRead
     )
 }
 
-// `name` and `parent` of a packet, whose `decl` line stands at `at` and ends at `p`.
-fn packet_at(rec: &[u8], at: usize, p: usize) -> DeclRead
-    ensures { λ r. ⌜ r ≡ packetAt (now (rec .entry)) at p ⌝ }
-{
-    let NameRead::Is(id, q) = keys::name_line(rec, p, b"name=") else {
-        return DeclRead::Wrong;
-    };
-    let MaybePartRead::Is(parent_id, t) = keys::maybe_name_line(rec, q, b"parent=") else {
-        return DeclRead::Wrong;
-    };
-    DeclRead::Is(
-        Decl {
-            key: at,
-            id,
-            desc: DeclDesc::Packet { parent_id },
-        },
-        t,
-    )
+// The declarations that can have a parent.
+enum Parented {
+    Packet,
+    Struct,
 }
 
-// `name` and `parent` of a struct.
-fn struct_at(rec: &[u8], at: usize, p: usize) -> DeclRead
-    ensures { λ r. ⌜ r ≡ structAt (now (rec .entry)) at p ⌝ }
+// `name` and `parent` of a packet or a struct, whose `decl` line stands at `at` and ends at `p`.
+fn parented_at(rec: &[u8], at: usize, p: usize, kind: Parented) -> DeclRead
+    ensures { λ r. ⌜ r ≡ parentedAt (parented kind) (now (rec .entry)) at p ⌝ }
 {
     let NameRead::Is(id, q) = keys::name_line(rec, p, b"name=") else {
         return DeclRead::Wrong;
@@ -89,14 +76,11 @@ fn struct_at(rec: &[u8], at: usize, p: usize) -> DeclRead
     let MaybePartRead::Is(parent_id, t) = keys::maybe_name_line(rec, q, b"parent=") else {
         return DeclRead::Wrong;
     };
-    DeclRead::Is(
-        Decl {
-            key: at,
-            id,
-            desc: DeclDesc::Struct { parent_id },
-        },
-        t,
-    )
+    let desc = match kind {
+        Parented::Packet => DeclDesc::Packet { parent_id },
+        Parented::Struct => DeclDesc::Struct { parent_id },
+    };
+    DeclRead::Is(Decl { key: at, id, desc }, t)
 }
 
 // `name`, `width`, `open` and `complete` of an enum.
@@ -174,10 +158,10 @@ pub fn decl_at(rec: &[u8], at: usize) -> DeclRead
     ensures { λ r. ⌜ r ≡ declAt (now (rec .entry)) at ⌝ }
 {
     if let Found::At(p) = names::key_at(rec, at, b"decl=packet\n") {
-        return packet_at(rec, at, p);
+        return parented_at(rec, at, p, Parented::Packet);
     }
     if let Found::At(p) = names::key_at(rec, at, b"decl=struct\n") {
-        return struct_at(rec, at, p);
+        return parented_at(rec, at, p, Parented::Struct);
     }
     if let Found::At(p) = names::key_at(rec, at, b"decl=enum\n") {
         return enum_at(rec, at, p);
@@ -199,24 +183,18 @@ fn target_at(rec: &[u8], at: usize, endianness: EndiannessValue) -> HeadRead
         return HeadRead::Wrong;
     };
     if let Found::At(q) = names::key_at(rec, p, b"arrays=lite\n") {
-        return HeadRead::Is(
-            Head {
-                endianness,
-                target,
-                arrays: Arrays::Lite,
-            },
-            q,
-        );
+        let options = Options {
+            endianness,
+            arrays: Arrays::Lite,
+        };
+        return HeadRead::Is(Head { options, target }, q);
     }
     if let Found::At(q) = names::key_at(rec, p, b"arrays=full\n") {
-        return HeadRead::Is(
-            Head {
-                endianness,
-                target,
-                arrays: Arrays::Full,
-            },
-            q,
-        );
+        let options = Options {
+            endianness,
+            arrays: Arrays::Full,
+        };
+        return HeadRead::Is(Head { options, target }, q);
     }
     HeadRead::Wrong
 }

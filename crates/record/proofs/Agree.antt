@@ -21,7 +21,7 @@ use Rattle.definitions.specs.declared.Refusal.{Refusal}
 use Rattle.places.specs.Places.{given, tablesFrom, howMany}
 use Rattle.places.proofs.Give.{Counted, Short, counts-give, tables-give}
 use Rattle.tables.proofs.Walks.{length-declarations, length-fields}
-use Rattle.ranges.proofs.Tests.{long}
+use Rattle.ranges.proofs.Tests.{neither, long}
 use Rattle.record.specs.Reader.{readVerdict, readingOf, readingRead, reading, readingCounted, readingIn, tablesAfter, valuesRoom, InTables, OfRecord}
 use Rattle.record.specs.declared.Reading.{Reading}
 
@@ -33,21 +33,17 @@ pub record Whole (s : Text) (t : Tables) : Type 0 where
 
 -- ---- refusals 1 and 3
 
-either : (a b : Bool) → a || b ≡ false → (a ≡ false) × (b ≡ false)
-either false false e = (refl, refl)
-either false true e = (refl, e)
-either true b e = absurd (let z : _≡_ {A = ℕ} 0 1 = cc in omega arith)
-
 -- where 1 is not met, the room is that of the whole record
 room-inside : (s : Text) (v : List ℕ) → wrongLength s ≡ false → valuesRoom s ≤ length v → length s / 16 * 17 ≤ length v
 room-inside s v right h =
-    let k : length s ≤ 16384 = ltb-false 16384 (length s) (either (eqb (length s) 0) (ltb 16384 (length s)) right .1) in omega arith
+    let k : length s ≤ 16384 = ltb-false 16384 (length s) (neither (eqb (length s) 0) (ltb 16384 (length s)) right .1) in omega arith
 
 -- where 3 is not met, no declaration has more than 64 fields
 all-short : (ds : List Declaration) → any long ds ≡ false → Short ds
 all-short [] e = Short.done
 all-short (d ∷ ds) e =
-    let k : (long d ≡ false) × (any long ds ≡ false) = either (long d) (any long ds) e in Short.more (ltb-false 64 (length (d .fields)) (k .0)) (all-short ds (k .1))
+    let k : (long d ≡ false) × (any long ds ≡ false) = neither (long d) (any long ds) e in
+    Short.more (ltb-false 64 (length (d .fields)) (k .0)) (all-short ds (k .1))
 
 long-given : (x y z : List ℕ) (i : ℕ) (ds : List Declaration) → Counted x i ds → any long (declarationsFrom x y z i (length ds)) ≡ any long ds
 unfolding declarationsFrom
@@ -74,7 +70,7 @@ module _ (s : Text) (at : ℕ) (t : Tables) (w : Whole s t) (right : wrongLength
   pub few-given : tooMany ds ≡ false → given (filled s at t) (length ds) ≡ ds
   unfolding tooMany
   few-given h =
-      let k : (ltb 32 (length ds) ≡ false) × (any long ds ≡ false) = either (ltb 32 (length ds)) (any long ds) h in
+      let k : (ltb 32 (length ds) ≡ false) × (any long ds ≡ false) = neither (ltb 32 (length ds)) (any long ds) h in
       let few : length ds ≤ 32 = ltb-false 32 (length ds) (k .0) in
       tables-give s (length s) at t ds e (all-short ds (k .1)) (omega (arith, w .declarations))
       (room-inside s (t .values) right (w .values)) (omega (arith, w .fields))
@@ -135,7 +131,8 @@ reading-agrees s t w = by (wrongLength s) refl
     by true e = in-wrong s (tablesAfter s t) e ∙ sym (reading-wrong s e)
     by false e =
         in-right s (tablesAfter s t) e
-        ∙ ap (λ (x : Tables). onHead (headAt s 0) (Reading.Refuse Refusal.RecordForm) λ h p. readingCounted s h x (howMany 0 (declarationsAt s (length s) p))) (after-right s t e)
+        ∙ ap (λ (x : Tables). onHead (headAt s 0) (Reading.Refuse Refusal.RecordForm) λ h p.
+        readingCounted s h x (howMany 0 (declarationsAt s (length s) p))) (after-right s t e)
         ∙ on-head e (headAt s 0)
         ∙ sym (reading-right s e)
 

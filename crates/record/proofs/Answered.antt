@@ -132,7 +132,8 @@ pub reading-passed : (s : Text) (t : Tables) → Whole s t → (h : Head) (n : �
 unfolding readRecord
 reading-passed s t w h n e = by (wrongLength s) refl
   where
-    on-verdict : wrongLength s ≡ false → (g : Head) (p : ℕ) (ds : List Declaration) → headAt s 0 ≡ HeadRead.Is g p → declarationsAt s (length s) p ≡ declarationsAre ds
+    on-verdict : wrongLength s ≡ false → (g : Head) (p : ℕ) (ds : List Declaration)
+        → headAt s 0 ≡ HeadRead.Is g p → declarationsAt s (length s) p ≡ declarationsAre ds
         → (v : Verdict) → readVerdict s ds ≡ v → readingOf g (length ds) v ≡ Reading.Pass h n → Passed s h n (tablesAfter s t)
     on-verdict r g p ds eh ed Verdict.Pass ev k =
         let eg : g ≡ h = cc in

@@ -19,7 +19,7 @@ pub enum Reading {
 }
 
 // Refusals 3 to 6 of what the tables give, each over the whole record before the next.
-fn read_verdict(rec: &[u8], rows: &[u64], values: &[u64], fields: &[usize], n: usize) -> Verdict
+fn read_verdict(rec: &[u8], rows: &[u64], values: &[u64], fields: &[u16], n: usize) -> Verdict
     ensures { λ r. ⌜ r ≡ readVerdict (now (rec .entry)) (declarationsFrom (now (rows .entry)) (now (values .entry)) (now (fields .entry)) 0 n) ⌝ }
 {
     if ranges::too_many(rows, n) {
@@ -38,14 +38,7 @@ fn read_verdict(rec: &[u8], rows: &[u64], values: &[u64], fields: &[usize], n: u
 }
 
 // The answer for a record of the right form.
-fn judge(
-    rec: &[u8],
-    rows: &[u64],
-    values: &[u64],
-    fields: &[usize],
-    head: Head,
-    n: usize,
-) -> Reading
+fn judge(rec: &[u8], rows: &[u64], values: &[u64], fields: &[u16], head: Head, n: usize) -> Reading
     ensures { λ r. ⌜ r ≡ readingOf head n
         (readVerdict (now (rec .entry)) (declarationsFrom (now (rows .entry)) (now (values .entry)) (now (fields .entry)) 0 n)) ⌝ }
 {
@@ -56,7 +49,7 @@ fn judge(
 }
 
 // The reader over tables of any length.
-fn read_tables(rec: &[u8], rows: &mut [u64], values: &mut [u64], fields: &mut [usize]) -> Reading
+fn read_tables(rec: &[u8], rows: &mut [u64], values: &mut [u64], fields: &mut [u16]) -> Reading
     ensures { λ r. ⌜ InTables (now (rec .entry))
         (tablesOf (now (rec .entry)) (now (rows .entry)) (now (values .entry)) (now (fields .entry))) r
         (tablesOf (now (rec .entry)) (now (rows .exit)) (now (values .exit)) (now (fields .exit))) ⌝ }
@@ -82,7 +75,7 @@ pub fn read_record(
     rec: &[u8],
     rows: &mut [u64; 352],
     values: &mut [u64],
-    fields: &mut [usize; 2048],
+    fields: &mut [u16; 2048],
 ) -> Reading
     requires { ⌜ valuesRoom (now rec) ≤ length (now values) ⌝ }
     ensures { λ r. ⌜ OfRecord (now (rec .entry))

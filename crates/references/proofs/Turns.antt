@@ -1,10 +1,10 @@
--- A walk over the fields of a declaration by their index: what is left from k on, and the tests of each turn.
+-- A walk over the fields of a declaration by their index: the tests of each turn.
 -- Assumes nothing.
-use Prim.Native.Nat.{ℕ, suc, _+_, _*_, _-_, _/_, _≤_, _<_}
-use mathlib.Core.Bool.{Bool, true, false, _||_}
-use mathlib.Core.List.{List, [], _∷_}
+use Prim.Native.Nat.{ℕ, _+_, _*_, _-_, _/_, _≤_, _<_}
+use mathlib.Core.Bool.{Bool, true, false}
+use mathlib.Core.List.{List}
 use mathlib.Core.Path.{_≡_, refl, sym, ap, _∙_}
-use native.Mathlib.Nat.{add-zero, sub-zero, div-lt-iff-lt-mul}
+use native.Mathlib.Nat.{div-lt-iff-lt-mul}
 use native.Mathlib.Omega.{arith}
 use lib.ListN.{length, getD, List·getD-eq-default}
 use Rattle.definitions.specs.Bytes.{Text, pick}
@@ -14,6 +14,7 @@ use Rattle.definitions.specs.declared.Field.{Field}
 use Rattle.definitions.specs.declared.Part.{Part}
 use Rattle.definitions.specs.declared.Reference.{Reference}
 use Rattle.tables.specs.Tables.{fieldHere, fieldsFrom}
+use Rattle.tables.proofs.Walks.{fields-start, fields-end, fields-more, any-fields-start, any-fields-end, any-fields-found, any-fields-turn}
 use Rattle.references.specs.Wanted.{wantedBy, isKnown}
 use Rattle.references.specs.declared.Wanted.{Wanted}
 
@@ -31,46 +32,29 @@ module _ (values : List ℕ) {at p : ℕ} (e : at ≡ p) {f : Field} (h : f ≡ 
   pub field-as : f ≡ fieldHere values p
   field-as = h ∙ ap (fieldHere values) e
 
--- ---- what is left of n fields from the k-th on
-
-module _ (values fields : List ℕ) (j n : ℕ) where
-  pub fields-start : fieldsFrom values fields (j + 0) (n - 0) ≡ fieldsFrom values fields j n
-  fields-start = ap (λ (j : ℕ). fieldsFrom values fields j (n - 0)) (add-zero j) ∙ ap (fieldsFrom values fields j) (sub-zero n)
-
-  pub fields-end : (k : ℕ) → n ≤ k → fieldsFrom values fields (j + k) (n - k) ≡ []
-  unfolding fieldsFrom
-  fields-end k h = ap (fieldsFrom values fields (j + k)) (let z : n - k ≡ 0 = omega arith in z)
-
-  pub fields-more : (k : ℕ) → k < n
-      → fieldsFrom values fields (j + k) (n - k) ≡ fieldHere values (getD fields (j + k) 0) ∷ fieldsFrom values fields (j + (k + 1)) (n - (k + 1))
-  unfolding fieldsFrom
-  fields-more k h =
-      ap (fieldsFrom values fields (j + k)) (let z : n - k ≡ suc (n - (k + 1)) = omega arith in z)
-      ∙ ap (λ (i : ℕ). fieldHere values (getD fields (j + k) 0) ∷ fieldsFrom values fields i (n - (k + 1))) (let z : j + k + 1 ≡ j + (k + 1) = omega arith in z)
-
 -- ---- some field is wanted
 
 module _ (s : Text) (wanted : Wanted) (values fields : List ℕ) (j n : ℕ) where
+  abbrev wants : Field → Bool
+  wants f = wantedBy s wanted (reference (f .desc))
+
   pub any-start : anyReference (wantedBy s wanted) (fieldsFrom values fields (j + 0) (n - 0)) ≡ anyReference (wantedBy s wanted) (fieldsFrom values fields j n)
-  any-start = ap (anyReference (wantedBy s wanted)) (fields-start values fields j n)
+  any-start = any-fields-start wants values fields j n
 
   module _ (k : ℕ) {e : Bool} (inv : anyReference (wantedBy s wanted) (fieldsFrom values fields (j + k) (n - k)) ≡ e) where
     pub any-end : n ≤ k → false ≡ e
-    any-end h = ap (anyReference (wantedBy s wanted)) (sym (fields-end values fields j n k h)) ∙ inv
+    any-end h = any-fields-end wants values fields j n k inv h
 
     module _ (h : k < n) {by : Reference} (er : by ≡ reference (fieldHere values (getD fields (j + k) 0) .desc))
         {b : Bool} (eb : b ≡ wantedBy s wanted by) where
-      split : (b || anyReference (wantedBy s wanted) (fieldsFrom values fields (j + (k + 1)) (n - (k + 1)))) ≡ e
-      split =
-          ap (λ (b : Bool). b || anyReference (wantedBy s wanted) (fieldsFrom values fields (j + (k + 1)) (n - (k + 1))))
-          (eb ∙ ap (wantedBy s wanted) er)
-          ∙ ap (anyReference (wantedBy s wanted)) (sym (fields-more values fields j n k h)) ∙ inv
+      tested : wants (fieldHere values (getD fields (j + k) 0)) ≡ b
+      tested = sym (eb ∙ ap (wantedBy s wanted) er)
 
       pub any-found : b ≡ true → true ≡ e
-      any-found hb = ap (λ (b : Bool). b || anyReference (wantedBy s wanted) (fieldsFrom values fields (j + (k + 1)) (n - (k + 1)))) (sym hb) ∙ split
+      any-found hb = any-fields-found wants values fields j n k inv h (tested ∙ hb)
 
       pub any-turn : b ≡ false → anyReference (wantedBy s wanted) (fieldsFrom values fields (j + (k + 1)) (n - (k + 1))) ≡ e
-      any-turn hb = ap (λ (b : Bool). b || anyReference (wantedBy s wanted) (fieldsFrom values fields (j + (k + 1)) (n - (k + 1)))) (sym hb) ∙ split
+      any-turn hb = any-fields-turn wants values fields j n k inv h (tested ∙ hb)
 
 -- ---- the first size or count field of an array
 

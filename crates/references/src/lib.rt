@@ -8,7 +8,7 @@ use definitions::MaybeNumber;
 use definitions::Part;
 use definitions::Reference;
 ghost use mathlib.Core.Path.{_≡_};
-ghost use Prim.Native.Nat.{_+_, _*_, _/_};
+ghost use Prim.Native.Nat.{_+_, _*_};
 ghost use lib.ListN.{getD};
 ghost use Rattle.definitions.specs.Bytes.{pick};
 ghost use Rattle.definitions.specs.Sizes.{sameName, reference, isPayloadSize, isArraySize, isElementSize, anyReference};
@@ -18,7 +18,7 @@ ghost use Rattle.tables.specs.Tables.{fieldHere, fieldsFrom};
 ghost use Rattle.references.specs.Wanted.{wantedBy, isKnown};
 
 // The place of field k; 0 outside the table.
-pub fn place_in(fields: &[usize], i: usize, k: usize) -> usize
+pub fn place_in(fields: &[u16], i: usize, k: usize) -> usize
     ensures { λ r. ⌜ r ≡ getD (now (fields .entry)) (i * 64 + k) 0 ⌝ }
 {
     let n = fields.len();
@@ -32,7 +32,7 @@ pub fn place_in(fields: &[usize], i: usize, k: usize) -> usize
 }
 
 // Field k of the declaration with the index i.
-pub fn field_in(values: &[u64], fields: &[usize], i: usize, k: usize) -> Field
+pub fn field_in(values: &[u64], fields: &[u16], i: usize, k: usize) -> Field
     ensures { λ r. ⌜ r ≡ fieldHere (now (values .entry)) (getD (now (fields .entry)) (i * 64 + k) 0) ⌝ }
 {
     tables::field_here(values, place_in(fields, i, k))
@@ -68,23 +68,12 @@ pub fn reference(desc: FieldDesc) -> Reference
     }
 }
 
-// The kind of the field whose place in the record is `at`.
-fn kind_here(values: &[u64], at: usize) -> u64
-    ensures { λ r. ⌜ r ≡ getD (now (values .entry)) (at / 16 * 17 + 1) 0 ⌝ }
-{
-    let e = at / 16;
-    if values.len() / 17 < e {
-        return 0;
-    }
-    tables::number(values, e * 17 + 1)
-}
-
 // What field k refers to. Only the kinds 3 to 5, a size, a count and an element size, refer to a field; of others no more is read.
-fn reference_in(values: &[u64], fields: &[usize], i: usize, k: usize) -> Reference
+fn reference_in(values: &[u64], fields: &[u16], i: usize, k: usize) -> Reference
     ensures { λ r. ⌜ r ≡ reference (fieldHere (now (values .entry)) (getD (now (fields .entry)) (i * 64 + k) 0) .desc) ⌝ }
 {
     let at = place_in(fields, i, k);
-    let kind = kind_here(values, at);
+    let kind = tables::kind_here(values, at);
     if kind < 3 {
         return Reference::None;
     }
@@ -154,7 +143,7 @@ fn wanted_by(rec: &[u8], wanted: Wanted, by: Reference) -> bool
 fn any_reference(
     rec: &[u8],
     values: &[u64],
-    fields: &[usize],
+    fields: &[u16],
     i: usize,
     n: usize,
     wanted: Wanted,
@@ -172,7 +161,7 @@ fn any_reference(
     false
 }
 
-pub fn has_payload_size(rec: &[u8], values: &[u64], fields: &[usize], i: usize, n: usize) -> bool
+pub fn has_payload_size(rec: &[u8], values: &[u64], fields: &[u16], i: usize, n: usize) -> bool
     ensures { λ r. ⌜ r ≡ hasPayloadSize (now (rec .entry)) (fieldsFrom (now (values .entry)) (now (fields .entry)) (i * 64) n) ⌝ }
 {
     any_reference(rec, values, fields, i, n, Wanted::PayloadSize)
@@ -181,7 +170,7 @@ pub fn has_payload_size(rec: &[u8], values: &[u64], fields: &[usize], i: usize, 
 pub fn has_array_size(
     rec: &[u8],
     values: &[u64],
-    fields: &[usize],
+    fields: &[u16],
     i: usize,
     n: usize,
     id: Part,
@@ -194,7 +183,7 @@ pub fn has_array_size(
 pub fn has_element_size(
     rec: &[u8],
     values: &[u64],
-    fields: &[usize],
+    fields: &[u16],
     i: usize,
     n: usize,
     id: Part,
@@ -247,7 +236,7 @@ fn is_known(size: ArraySize) -> bool
 fn first_count(
     rec: &[u8],
     values: &[u64],
-    fields: &[usize],
+    fields: &[u16],
     i: usize,
     n: usize,
     id: Part,
@@ -270,7 +259,7 @@ fn first_count(
 pub fn array_size(
     rec: &[u8],
     values: &[u64],
-    fields: &[usize],
+    fields: &[u16],
     i: usize,
     n: usize,
     id: Part,

@@ -50,7 +50,10 @@ module _ (b : List ℕ) {buf : List ℕ} {i : ℕ} (m : Marking b buf i) where
           ∙ ap (λ (k : ℕ). paste b 0 (marksFrom 0 (length b)) k) (sym (add-one i))
 
   pub marking-end : length buf ≤ i → buf ≡ marksFrom 0 (length b)
-  marking-end w = m .marked ∙ rw (take-all i (marksFrom 0 (length b)) (omega (arith, length-marks 0 (length b))), drop-of-length-le b {i = 0 + i} (omega arith)) (append-nil (marksFrom 0 (length b)))
+  marking-end w =
+      m .marked
+      ∙ rw (take-all i (marksFrom 0 (length b)) (omega (arith, length-marks 0 (length b))), drop-of-length-le b {i = 0 + i} (omega arith))
+      (append-nil (marksFrom 0 (length b)))
 
 -- ---- still marked
 

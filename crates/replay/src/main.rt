@@ -2,12 +2,9 @@
 // byte of the lines and every byte behind them are compared, in a buffer of 65,536 bytes, in one of the exact length, and, where there are
 // lines, in one of a byte less and in none, where 15 is due and nothing may be written. Prints how many cases there are, and how many differ.
 
-use cases::Stored;
+use cases::Next;
 use definitions::Found;
-use definitions::Part;
-use host::Input;
 use libc::STDIN_FILENO;
-use libc::STDOUT_FILENO;
 ghost use mathlib.Core.Path.{_≡_};
 ghost use lib.ListN.{length, drop};
 ghost use Rattle.replay.specs.Marks.{markAt, marksFrom, areMarks, agreed};
@@ -49,10 +46,10 @@ fn are_marks(out: &[u8], from: usize) -> bool
 fn agrees(word: u64, answer: u64, lines: &[u8], out: &[u8]) -> bool
     ensures { λ r. ⌜ r ≡ agreed word answer (now (lines .entry)) (now (out .entry)) ⌝ }
 {
-    if host::answer(word) != answer {
+    if console::answer(word) != answer {
         return false;
     }
-    if host::lines_length(word) != lines.len() {
+    if console::lines_length(word) != lines.len() {
         return false;
     }
     match names::key_at(out, 0, lines) {
@@ -102,22 +99,10 @@ struct Tally {
     differ: u64,
 }
 
-fn plus_one(n: u64) -> u64 {
-    if n < u64::MAX { n + 1 } else { n }
-}
-
-// A line `NAME=NUMBER`.
-fn print(name: &[u8], n: u64) {
-    io::write_all(STDOUT_FILENO, name);
-    io::write_all(STDOUT_FILENO, b"=");
-    io::print_decimal(STDOUT_FILENO, n);
-    io::write_all(STDOUT_FILENO, b"\n");
-}
-
 fn tallied(t: Tally, answer: u64, agreed: bool) -> Tally {
-    let cases = plus_one(t.cases);
+    let cases = console::plus_one(t.cases);
     let accepted = if answer == 0 {
-        plus_one(t.accepted)
+        console::plus_one(t.accepted)
     } else {
         t.accepted
     };
@@ -128,30 +113,11 @@ fn tallied(t: Tally, answer: u64, agreed: bool) -> Tally {
             differ: t.differ,
         };
     }
-    print(b"differs", cases);
+    console::print_number(b"differs", cases);
     Tally {
         cases,
         accepted,
-        differ: plus_one(t.differ),
-    }
-}
-
-// Where what is not yet read stands in the window.
-fn refilled(window: &mut [u8], at: usize, end: usize) -> Part {
-    let kept = cases::slide(window, at, end);
-    match host::fill(STDIN_FILENO, window, kept) {
-        Input::Full(n) => Part {
-            start: kept,
-            end: n,
-        },
-        Input::Ended(n) => Part {
-            start: kept,
-            end: n,
-        },
-        Input::Failed => Part {
-            start: kept,
-            end: kept,
-        },
+        differ: console::plus_one(t.differ),
     }
 }
 
@@ -168,11 +134,12 @@ fn replay(window: &mut [u8], out: &mut [u8]) -> Tally {
     let mut turns = u64::MAX;
     while turns > 0 {
         turns -= 1;
-        match cases::case_at(host::front(window, end), at) {
-            Stored::Case {
+        match cases::next_case(STDIN_FILENO, window, at, end) {
+            Next::Case {
                 answer,
                 record,
                 lines,
+                end: filled,
             } => {
                 let given = is_given_in_every_room(
                     names::part(window, record),
@@ -182,20 +149,13 @@ fn replay(window: &mut [u8], out: &mut [u8]) -> Tally {
                 );
                 t = tallied(t, answer, given);
                 at = lines.end;
+                end = filled;
             }
-            Stored::Cut => {
-                let unread = refilled(window, at, end);
-                if unread.end == unread.start {
-                    if unread.start != 0 {
-                        print(b"broken", t.cases);
-                    }
-                    return t;
-                }
-                at = 0;
-                end = unread.end;
+            Next::End => {
+                return t;
             }
-            Stored::Wrong => {
-                print(b"broken", t.cases);
+            Next::Broken => {
+                console::print_number(b"broken", t.cases);
                 return t;
             }
         }
@@ -207,7 +167,7 @@ fn main() {
     let mut window = [0u8; 131072];
     let mut out = io::large_buffer();
     let t = replay(&mut window, &mut out);
-    print(b"cases", t.cases);
-    print(b"accepted", t.accepted);
-    print(b"differ", t.differ);
+    console::print_number(b"cases", t.cases);
+    console::print_number(b"accepted", t.accepted);
+    console::print_number(b"differ", t.differ);
 }

@@ -11,8 +11,9 @@ use lib.ListN.{length, getD}
 use Rattle.definitions.specs.Bytes.{Text}
 use Rattle.definitions.specs.Record.{onFound}
 use Rattle.definitions.specs.Sizes.{Row, sameName, addSize, totalSize, lookup, totalOf, parentOf}
-use Rattle.definitions.specs.Sizes.{EnumOf, enumIs, noEnum, descEnum, enumOf, isEnum, isBitfield}
+use Rattle.definitions.specs.Sizes.{descEnum, enumOf, isEnum, isBitfield}
 use Rattle.definitions.specs.Tables.{decode}
+use Rattle.definitions.specs.declared.EnumOf.{EnumOf}
 use Rattle.definitions.specs.declared.Decl.{Decl}
 use Rattle.definitions.specs.declared.DeclDesc.{DeclDesc}
 use Rattle.definitions.specs.declared.FieldDesc.{FieldDesc}
@@ -22,8 +23,6 @@ use Rattle.definitions.specs.declared.Part.{Part}
 use Rattle.definitions.specs.declared.Size.{Size}
 use Rattle.tables.specs.Tables.{declHere, rowIn, rowsFrom, declsFrom, which}
 use Rattle.bits.proofs.Coding.{decode-static, decode-outside}
-use Rattle.rows.specs.Enums.{enumType, isEnumType}
-use Rattle.rows.specs.declared.EnumType.{EnumType}
 
 -- ---- the sizes of a row, outside the table
 
@@ -58,7 +57,7 @@ abbrev parentOn : Option Row → Size
 parentOn o = elim o [ some r ↦ addSize (r .declSize) (r .parentSize) | none ↦ Size.Static 0 ]
 
 abbrev enumOn : Option Row → EnumOf
-enumOn o = elim o [ some r ↦ descEnum (r .decl .desc) | none ↦ noEnum ]
+enumOn o = elim o [ some r ↦ descEnum (r .decl .desc) | none ↦ EnumOf.None ]
 
 module _ (s rows : List ℕ) (n : ℕ) (name : Part) {r : Found} (e : r ≡ which s name 0 (declsFrom rows 0 n)) where
   looked : {q : Found} → r ≡ q → lookup s (rowsFrom rows 0 n) name ≡ onFound q none (λ j. some (rowIn rows j))
@@ -70,12 +69,12 @@ module _ (s rows : List ℕ) (n : ℕ) (name : Part) {r : Found} (e : r ≡ whic
   pub parent-none : {m : MaybePart} → m ≡ MaybePart.Some name → r ≡ Found.Nothing → Size.Static 0 ≡ parentOf s (rowsFrom rows 0 n) m
   parent-none k h = sym (ap (parentOf s (rowsFrom rows 0 n)) k ∙ ap parentOn (looked h))
 
-  pub enum-none : r ≡ Found.Nothing → EnumType.None ≡ enumType (enumOf s (rowsFrom rows 0 n) name)
-  enum-none h = sym (ap (λ (o : Option Row). enumType (enumOn o)) (looked h))
+  pub enum-none : r ≡ Found.Nothing → EnumOf.None ≡ enumOf s (rowsFrom rows 0 n) name
+  enum-none h = sym (ap (λ (o : Option Row). enumOn o) (looked h))
 
   module _ {i : ℕ} (h : r ≡ Found.At i) where
-    pub enum-found : {d : Decl} → d ≡ declHere rows i → {t : EnumType} → t ≡ enumType (descEnum (d .desc)) → t ≡ enumType (enumOf s (rowsFrom rows 0 n) name)
-    enum-found ed et = et ∙ ap (λ (d : Decl). enumType (descEnum (d .desc))) ed ∙ sym (ap (λ (o : Option Row). enumType (enumOn o)) (looked h))
+    pub enum-found : {d : Decl} → d ≡ declHere rows i → {t : EnumOf} → t ≡ descEnum (d .desc) → t ≡ enumOf s (rowsFrom rows 0 n) name
+    enum-found ed et = et ∙ ap (λ (d : Decl). descEnum (d .desc)) ed ∙ sym (ap (λ (o : Option Row). enumOn o) (looked h))
 
     module _ {a b : Size} (ea : a ≡ decode (getD rows (i * 11 + 8) 0)) (eb : b ≡ decode (getD rows (i * 11 + 9) 0)) {x : Size} (ex : x ≡ addSize a b) where
       pub total-found : {c : Size} → c ≡ decode (getD rows (i * 11 + 10) 0) → {y : Size} → y ≡ addSize x c → y ≡ totalOf s (rowsFrom rows 0 n) name
@@ -89,17 +88,13 @@ parent-absent s rows e = sym (ap (parentOf s rows) e)
 
 -- ---- the cases of the by-value functions
 
-pub desc-enum-as : {d c : DeclDesc} {t : EnumType} → d ≡ c → t ≡ enumType (descEnum c) → t ≡ enumType (descEnum d)
-desc-enum-as e h = h ∙ ap (λ (d : DeclDesc). enumType (descEnum d)) (sym e)
-
-is-enum-type : (x : EnumOf) → isEnumType (enumType x) ≡ isEnum x
-is-enum-type (enumIs width isOpen isComplete) = refl
-is-enum-type noEnum = refl
+pub desc-enum-as : {d c : DeclDesc} {t : EnumOf} → d ≡ c → t ≡ descEnum c → t ≡ descEnum d
+desc-enum-as e h = h ∙ ap (λ (d : DeclDesc). descEnum d) (sym e)
 
 module _ (s : Text) (rows : List Row) {d : FieldDesc} where
   pub bitfield-as : {c : FieldDesc} {b : Bool} → d ≡ c → b ≡ isBitfield s rows c → b ≡ isBitfield s rows d
   bitfield-as e h = h ∙ ap (isBitfield s rows) (sym e)
 
-  pub bitfield-typedef : {id type : Part} → d ≡ FieldDesc.Typedef id type → {t : EnumType} → t ≡ enumType (enumOf s rows type)
-      → {b : Bool} → b ≡ isEnumType t → b ≡ isBitfield s rows d
-  bitfield-typedef {id} {type} e et eb = eb ∙ ap isEnumType et ∙ is-enum-type (enumOf s rows type) ∙ ap (isBitfield s rows) (sym e)
+  pub bitfield-typedef : {id type : Part} → d ≡ FieldDesc.Typedef id type → {t : EnumOf} → t ≡ enumOf s rows type
+      → {b : Bool} → b ≡ isEnum t → b ≡ isBitfield s rows d
+  bitfield-typedef {id} {type} e et eb = eb ∙ ap isEnum et ∙ ap (isBitfield s rows) (sym e)

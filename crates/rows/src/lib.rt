@@ -2,6 +2,7 @@
 // the first n. Each of the three sizes of a row stands there as a number.
 
 use definitions::DeclDesc;
+use definitions::EnumOf;
 use definitions::FieldDesc;
 use definitions::Found;
 use definitions::MaybePart;
@@ -10,10 +11,9 @@ use definitions::Size;
 ghost use mathlib.Core.Path.{_≡_};
 ghost use Prim.Native.Nat.{_+_, _*_};
 ghost use lib.ListN.{getD};
-ghost use Rattle.definitions.specs.Sizes.{totalOf, parentOf, descEnum, enumOf, isBitfield};
+ghost use Rattle.definitions.specs.Sizes.{totalOf, parentOf, descEnum, enumOf, isEnum, isBitfield};
 ghost use Rattle.definitions.specs.Tables.{decode};
 ghost use Rattle.tables.specs.Tables.{rowsFrom};
-ghost use Rattle.rows.specs.Enums.{enumType, isEnumType};
 
 // ---- the sizes of a row
 
@@ -79,57 +79,48 @@ pub fn parent_of(rec: &[u8], rows: &[u64], n: usize, parent: MaybePart) -> Size
 
 // ---- a type that is an enum
 
-pub enum EnumType {
-    Enum {
-        width: u64,
-        open: bool,
-        complete: bool,
-    },
-    None,
-}
-
-fn desc_enum(desc: DeclDesc) -> EnumType
-    ensures { λ r. ⌜ r ≡ enumType (descEnum desc) ⌝ }
+fn desc_enum(desc: DeclDesc) -> EnumOf
+    ensures { λ r. ⌜ r ≡ descEnum desc ⌝ }
 {
     match desc {
-        DeclDesc::Checksum { width: _ } => EnumType::None,
-        DeclDesc::CustomField { width: _ } => EnumType::None,
+        DeclDesc::Checksum { width: _ } => EnumOf::None,
+        DeclDesc::CustomField { width: _ } => EnumOf::None,
         DeclDesc::Enum {
             width,
             open,
             complete,
-        } => EnumType::Enum {
+        } => EnumOf::Enum {
             width,
             open,
             complete,
         },
-        DeclDesc::Packet { parent_id: _ } => EnumType::None,
-        DeclDesc::Struct { parent_id: _ } => EnumType::None,
+        DeclDesc::Packet { parent_id: _ } => EnumOf::None,
+        DeclDesc::Struct { parent_id: _ } => EnumOf::None,
     }
 }
 
 // Its width, and the marks open and complete.
-pub fn enum_of(rec: &[u8], rows: &[u64], n: usize, name: Part) -> EnumType
-    ensures { λ r. ⌜ r ≡ enumType (enumOf (now (rec .entry)) (rowsFrom (now (rows .entry)) 0 n) name) ⌝ }
+pub fn enum_of(rec: &[u8], rows: &[u64], n: usize, name: Part) -> EnumOf
+    ensures { λ r. ⌜ r ≡ enumOf (now (rec .entry)) (rowsFrom (now (rows .entry)) 0 n) name ⌝ }
 {
     let Found::At(i) = tables::find(rec, rows, n, name) else {
-        return EnumType::None;
+        return EnumOf::None;
     };
     let d = tables::decl_here(rows, i);
     let desc = d.desc;
     desc_enum(desc)
 }
 
-fn is_enum(e: EnumType) -> bool
-    ensures { λ r. ⌜ r ≡ isEnumType e ⌝ }
+fn is_enum(e: EnumOf) -> bool
+    ensures { λ r. ⌜ r ≡ isEnum e ⌝ }
 {
     match e {
-        EnumType::Enum {
+        EnumOf::Enum {
             width: _,
             open: _,
             complete: _,
         } => true,
-        EnumType::None => false,
+        EnumOf::None => false,
     }
 }
 

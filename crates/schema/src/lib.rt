@@ -5,13 +5,12 @@ use annotate::FieldSums;
 use definitions::Decl;
 use definitions::DeclDesc;
 use definitions::MaybeNumber;
-use definitions::MaybePart;
 use definitions::Size;
 ghost use mathlib.Core.Path.{_≡_};
 ghost use mathlib.Core.Bool.{_||_};
 ghost use Prim.Native.Nat.{_+_, _*_, _≤_, _<_};
 ghost use lib.ListN.{length};
-ghost use Rattle.definitions.specs.Sizes.{declSizeOf, payloadSizeOf, parentId, annotateDecl};
+ghost use Rattle.definitions.specs.Sizes.{declSizeOf, payloadSizeOf, annotateDecl};
 ghost use Rattle.definitions.specs.Refusals.{tooLarge};
 ghost use Rattle.tables.specs.Tables.{Tables, tablesOf, rowsOf, fieldsOf, declarationIn};
 ghost use Rattle.schema.specs.Entries.{largeSizes, rowSizes, entrySizes, putRow, Sized};
@@ -58,22 +57,6 @@ fn payload_size(desc: DeclDesc, last: Size) -> Size
         } => Size::Static(0),
         DeclDesc::Packet { parent_id: _ } => last,
         DeclDesc::Struct { parent_id: _ } => last,
-    }
-}
-
-fn parent_id(desc: DeclDesc) -> MaybePart
-    ensures { λ r. ⌜ r ≡ parentId desc ⌝ }
-{
-    match desc {
-        DeclDesc::Checksum { width: _ } => MaybePart::None,
-        DeclDesc::CustomField { width: _ } => MaybePart::None,
-        DeclDesc::Enum {
-            width: _,
-            open: _,
-            complete: _,
-        } => MaybePart::None,
-        DeclDesc::Packet { parent_id } => parent_id,
-        DeclDesc::Struct { parent_id } => parent_id,
     }
 }
 
@@ -128,7 +111,7 @@ fn annotate_decl(
     rec: &[u8],
     rows: &[u64],
     values: &[u64],
-    fields: &[usize],
+    fields: &[u16],
     i: usize,
     n: usize,
     d: Decl,
@@ -138,12 +121,12 @@ fn annotate_decl(
 {
     let desc = d.desc;
     let sums = annotate::sum_fields(rec, rows, values, fields, i, n);
-    let above = rows::parent_of(rec, rows, i, parent_id(desc));
+    let above = rows::parent_of(rec, rows, i, tables::parent_id(desc));
     row_sizes(desc, sums, above)
 }
 
 // The same of the declaration with the index i.
-fn row_at(rec: &[u8], rows: &[u64], values: &[u64], fields: &[usize], i: usize) -> RowSizes
+fn row_at(rec: &[u8], rows: &[u64], values: &[u64], fields: &[u16], i: usize) -> RowSizes
     ensures { λ r. let t : Tables = tablesOf (now (rec .entry)) (now (rows .entry)) (now (values .entry)) (now (fields .entry)) in
         ⌜ r ≡ entrySizes (annotateDecl (t .source) (rowsOf t i) (declarationIn (t .rows) (t .values) (t .fields) i)) ⌝ }
 {
@@ -167,7 +150,7 @@ fn put_row(rows: &mut [u64], i: usize, row: RowSizes)
 }
 
 // The sizes of the n declarations; true where 7 is met.
-pub fn schema(rec: &[u8], rows: &mut [u64], values: &[u64], fields: &[usize], n: usize) -> bool
+pub fn schema(rec: &[u8], rows: &mut [u64], values: &[u64], fields: &[u16], n: usize) -> bool
     requires { ⌜ n * 11 ≤ length (now rows) ⌝ }
     ensures { λ r. ⌜ Sized (now (rec .entry)) (now (rows .entry)) (now (values .entry)) (now (fields .entry)) n (now (rows .exit)) r ⌝ }
 {

@@ -10,7 +10,6 @@ use Rattle.definitions.specs.Bytes.{any}
 use Rattle.definitions.specs.Sizes.{sameName}
 use Rattle.definitions.specs.Refusals.{duplicateName}
 use Rattle.definitions.specs.declared.Part.{Part}
-use Rattle.definitions.specs.declared.Decl.{Decl}
 use Rattle.tables.specs.Tables.{declHere, declarationsFrom}
 use Rattle.tables.proofs.Walks.{any-declarations-end, any-declarations-found, any-declarations-turn}
 use Rattle.ranges.specs.Ranges.{bare}
@@ -22,9 +21,9 @@ module _ (s rows : List ℕ) (n i : ℕ) (name : Part) {e : Bool} (inv : any (ha
   pub named-end : n ≤ i → false ≡ e
   named-end h = any-declarations-end (hasName s name) rows [] [] n i inv h
 
-  module _ (h : i < n) {d : Decl} (ed : d ≡ declHere rows i) {b : Bool} (eb : b ≡ sameName s name (d .id)) where
+  module _ (h : i < n) {id : Part} (ei : id ≡ declHere rows i .id) {b : Bool} (eb : b ≡ sameName s name id) where
     compared : sameName s name (declHere rows i .id) ≡ b
-    compared = sym (eb ∙ ap (λ (x : Decl). sameName s name (x .id)) ed)
+    compared = sym (eb ∙ ap (sameName s name) ei)
 
     pub named-found : b ≡ true → true ≡ e
     named-found hb = any-declarations-found (hasName s name) rows [] [] n i inv h (compared ∙ hb)
@@ -42,8 +41,8 @@ module _ (s rows : List ℕ) (n i : ℕ) {e : Bool} (inv : duplicateName s (decl
   unfolding duplicateName declarationsFrom
   twice-end h = ap (λ (m : ℕ). duplicateName s (declarationsFrom rows [] [] i m)) (let z : 0 ≡ n - i = omega arith in z) ∙ inv
 
-  module _ (h : i < n) {d : Decl} (ed : d ≡ declHere rows i) {b : Bool}
-      (eb : b ≡ any (hasName s (d .id)) (declarationsFrom rows [] [] (i + 1) (n - (i + 1)))) where
+  module _ (h : i < n) {id : Part} (ei : id ≡ declHere rows i .id) {b : Bool}
+      (eb : b ≡ any (hasName s id) (declarationsFrom rows [] [] (i + 1) (n - (i + 1)))) where
     -- what is left behind the declaration i
     next : Bool
     next = duplicateName s (declarationsFrom rows [] [] (i + 1) (n - (i + 1)))
@@ -53,7 +52,7 @@ module _ (s rows : List ℕ) (n i : ℕ) {e : Bool} (inv : duplicateName s (decl
     unfolding duplicateName declarationsFrom next
     twice-opened =
         ap (λ (x : Bool). x || next)
-        (eb ∙ ap (λ (x : Decl). any (hasName s (x .id)) (declarationsFrom rows [] [] (i + 1) (n - (i + 1)))) ed)
+        (eb ∙ ap (λ (p : Part). any (hasName s p) (declarationsFrom rows [] [] (i + 1) (n - (i + 1)))) ei)
         ∙ ap (λ (m : ℕ). duplicateName s (declarationsFrom rows [] [] i m)) (let q : suc (n - (i + 1)) ≡ n - i = omega arith in q)
         ∙ inv
 

@@ -1,6 +1,6 @@
 -- The exits of the test for refusal 5 (`unknownName`).
 -- Assumes nothing.
-use Prim.Native.Nat.{ℕ, zero, suc, _+_, _*_, _-_, _≤_, _<_}
+use Prim.Native.Nat.{ℕ, zero, suc, _+_, _*_, _-_, _/_, _≤_, _<_}
 use mathlib.Core.Bool.{Bool, true, false, not, _||_}
 use mathlib.Core.List.{List, [], _∷_, _++_}
 use mathlib.Core.Option.{none, some}
@@ -21,6 +21,7 @@ use Rattle.definitions.specs.declared.Field.{Field}
 use Rattle.definitions.specs.declared.Decl.{Decl}
 use Rattle.definitions.specs.declared.Found.{Found}
 use Rattle.tables.specs.Tables.{fieldHere, declHere, countHere, fieldsFrom, declarationIn, declarationsFrom, which, declsFrom}
+use Rattle.tables.proofs.FieldKinds.{kindOf, kind-read}
 use Rattle.tables.proofs.Search.{find-which}
 use Rattle.tables.proofs.Walks.{any-fields-start, any-fields-end, any-fields-found, any-fields-turn}
 use Rattle.ranges.specs.Ranges.{bare}
@@ -31,6 +32,31 @@ use Rattle.scope.specs.declared.Role.{Role}
 
 pub kind-type : (s : Text) (earlier : List Declaration) {d k : FieldDesc} {b : Bool} → d ≡ k → b ≡ badType s earlier k → b ≡ badType s earlier d
 kind-type s earlier e h = h ∙ ap (badType s earlier) (sym e)
+
+-- ---- a field by the number of its kind
+
+untyped : (s : Text) (earlier : List Declaration) (d : FieldDesc) → kindOf d < 10 → false ≡ badType s earlier d
+untyped s earlier (FieldDesc.Checksum of) h = refl
+untyped s earlier (FieldDesc.Padding size) h = refl
+untyped s earlier (FieldDesc.Size of width) h = refl
+untyped s earlier (FieldDesc.Count of width) h = refl
+untyped s earlier (FieldDesc.ElementSize of width) h = refl
+untyped s earlier FieldDesc.Body h = refl
+untyped s earlier (FieldDesc.Payload modifier) h = refl
+untyped s earlier (FieldDesc.FixedScalar width value) h = refl
+untyped s earlier (FieldDesc.FixedEnum type tag) h = absurd (omega arith)
+untyped s earlier (FieldDesc.Reserved width) h = refl
+untyped s earlier (FieldDesc.Array id width type modifier size) h = absurd (omega arith)
+untyped s earlier (FieldDesc.Scalar id width) h = refl
+untyped s earlier (FieldDesc.Flag id) h = refl
+untyped s earlier (FieldDesc.Typedef id type) h = absurd (omega arith)
+
+module _ (s : Text) (earlier : List Declaration) (values : List ℕ) (at : ℕ) where
+  pub type-none : {kind : ℕ} → kind ≡ getD values (at / 16 * 17 + 1) 0 → kind < 10 → false ≡ badFieldType s earlier (fieldHere values at)
+  type-none ek h = untyped s earlier (fieldHere values at .desc) (omega (arith, kind-read values at))
+
+  pub type-read : {f : Field} → f ≡ fieldHere values at → {b : Bool} → b ≡ badType s earlier (f .desc) → b ≡ badFieldType s earlier (fieldHere values at)
+  type-read ef eb = eb ∙ ap (badFieldType s earlier) ef
 
 -- ---- the look-up of a name
 
@@ -63,10 +89,10 @@ module _ (s : List ℕ) (earlier : List Declaration) (values fields : List ℕ) 
   pub type-end : m ≤ k → false ≡ e
   type-end h = any-fields-end (badFieldType s earlier) values fields j m k inv h
 
-  module _ (h : k < m) {at : ℕ} (ea : at ≡ getD fields (j + k) 0) {f : Field} (ef : f ≡ fieldHere values at) {b : Bool}
-      (eb : b ≡ badType s earlier (f .desc)) where
+  module _ (h : k < m) {at : ℕ} (ea : at ≡ getD fields (j + k) 0) {b : Bool}
+      (eb : b ≡ badFieldType s earlier (fieldHere values at)) where
     tested : badFieldType s earlier (fieldHere values (getD fields (j + k) 0)) ≡ b
-    tested = sym (eb ∙ ap (badFieldType s earlier) (ef ∙ ap (fieldHere values) ea))
+    tested = sym (eb ∙ ap (λ (p : ℕ). badFieldType s earlier (fieldHere values p)) ea)
 
     pub type-found : b ≡ true → true ≡ e
     type-found hb = any-fields-found (badFieldType s earlier) values fields j m k inv h (tested ∙ hb)

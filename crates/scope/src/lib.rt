@@ -11,9 +11,8 @@ ghost use mathlib.Core.Bool.{false};
 ghost use mathlib.Core.List.{[]};
 ghost use Prim.Native.Nat.{_+_, _-_, _≤_};
 ghost use Rattle.definitions.specs.Bytes.{any};
-ghost use Rattle.definitions.specs.Sizes.{parentId};
-ghost use Rattle.definitions.specs.Refusals.{tooMany, duplicateName, find as findDesc, isFrame, isEnumDesc, lacks as lacksDesc, badName, badType, badNames, unknownName};
-ghost use Rattle.tables.specs.Tables.{fieldsFrom, countHere, declarationIn, declarationsFrom};
+ghost use Rattle.definitions.specs.Refusals.{tooMany, duplicateName, find as findDesc, isEnumDesc, lacks as lacksDesc, badName, badType, badNames, unknownName};
+ghost use Rattle.tables.specs.Tables.{fieldHere, fieldsFrom, countHere, declarationIn, declarationsFrom};
 ghost use Rattle.ranges.specs.Ranges.{bare};
 ghost use Rattle.scope.specs.Scopes.{hasName, wants, badFieldType};
 
@@ -25,8 +24,7 @@ fn is_named(rec: &[u8], rows: &[u64], first: usize, n: usize, name: Part) -> boo
 {
     let mut i = first;
     while i < n {
-        let d = tables::decl_here(rows, i);
-        let id = d.id;
+        let id = tables::id_here(rows, i);
         if names::same_name(rec, name, id) {
             return true;
         }
@@ -41,8 +39,7 @@ pub fn duplicate_name(rec: &[u8], rows: &[u64], n: usize) -> bool
 {
     let mut i = 0;
     while i < n {
-        let d = tables::decl_here(rows, i);
-        let id = d.id;
+        let id = tables::id_here(rows, i);
         if is_named(rec, rows, i + 1, n, id) {
             return true;
         }
@@ -58,23 +55,6 @@ pub enum Role {
     Anything,
     Frame,
     Enum,
-}
-
-// A packet or struct.
-pub fn is_frame(desc: DeclDesc) -> bool
-    ensures { λ r. ⌜ r ≡ isFrame desc ⌝ }
-{
-    match desc {
-        DeclDesc::Checksum { width: _ } => false,
-        DeclDesc::CustomField { width: _ } => false,
-        DeclDesc::Enum {
-            width: _,
-            open: _,
-            complete: _,
-        } => false,
-        DeclDesc::Packet { parent_id: _ } => true,
-        DeclDesc::Struct { parent_id: _ } => true,
-    }
 }
 
 // An enum.
@@ -100,7 +80,7 @@ fn plays(role: Role, desc: DeclDesc) -> bool
 {
     match role {
         Role::Anything => true,
-        Role::Frame => is_frame(desc),
+        Role::Frame => tables::is_frame(desc),
         Role::Enum => is_enum(desc),
     }
 }
@@ -166,13 +146,25 @@ fn bad_type(rec: &[u8], rows: &[u64], n: usize, desc: FieldDesc) -> bool
     }
 }
 
+// The same of the field whose place is `at`. Only the kinds from 10 on have a type; of others no more is read.
+fn bad_field_type(rec: &[u8], rows: &[u64], n: usize, values: &[u64], at: usize) -> bool
+    ensures { λ r. ⌜ r ≡ badFieldType (now (rec .entry)) (bare (now (rows .entry)) n) (fieldHere (now (values .entry)) at) ⌝ }
+{
+    if tables::kind_here(values, at) < 10 {
+        return false;
+    }
+    let f = tables::field_here(values, at);
+    let desc = f.desc;
+    bad_type(rec, rows, n, desc)
+}
+
 // The types of m fields, whose places the table has from `base` on.
 fn bad_types(
     rec: &[u8],
     rows: &[u64],
     n: usize,
     values: &[u64],
-    fields: &[usize],
+    fields: &[u16],
     base: usize,
     m: usize,
 ) -> bool
@@ -182,9 +174,7 @@ fn bad_types(
     let mut k = 0;
     while k < m {
         let at = tables::get(fields, base + k);
-        let f = tables::field_here(values, at);
-        let desc = f.desc;
-        if bad_type(rec, rows, n, desc) {
+        if bad_field_type(rec, rows, n, values, at) {
             return true;
         }
         k += 1;
@@ -192,25 +182,8 @@ fn bad_types(
     false
 }
 
-// `parent_id` of a packet or struct.
-fn parent_id(desc: DeclDesc) -> MaybePart
-    ensures { λ r. ⌜ r ≡ parentId desc ⌝ }
-{
-    match desc {
-        DeclDesc::Checksum { width: _ } => MaybePart::None,
-        DeclDesc::CustomField { width: _ } => MaybePart::None,
-        DeclDesc::Enum {
-            width: _,
-            open: _,
-            complete: _,
-        } => MaybePart::None,
-        DeclDesc::Packet { parent_id } => parent_id,
-        DeclDesc::Struct { parent_id } => parent_id,
-    }
-}
-
 // The parent and the types of the declaration with the index i.
-fn bad_names(rec: &[u8], rows: &[u64], values: &[u64], fields: &[usize], i: usize) -> bool
+fn bad_names(rec: &[u8], rows: &[u64], values: &[u64], fields: &[u16], i: usize) -> bool
     requires { ⌜ i ≤ 32 ⌝ }
     requires { ⌜ countHere (now rows) i ≤ 64 ⌝ }
     ensures { λ r. ⌜ r ≡ badNames (now (rec .entry)) (bare (now (rows .entry)) i)
@@ -218,7 +191,7 @@ fn bad_names(rec: &[u8], rows: &[u64], values: &[u64], fields: &[usize], i: usiz
 {
     let d = tables::decl_here(rows, i);
     let desc = d.desc;
-    let parent = parent_id(desc);
+    let parent = tables::parent_id(desc);
     if bad_name(rec, rows, i, Role::Frame, parent) {
         return true;
     }
@@ -227,7 +200,7 @@ fn bad_names(rec: &[u8], rows: &[u64], values: &[u64], fields: &[usize], i: usiz
 }
 
 // A name of the first n declarations, where 3 is not met.
-pub fn unknown_name(rec: &[u8], rows: &[u64], values: &[u64], fields: &[usize], n: usize) -> bool
+pub fn unknown_name(rec: &[u8], rows: &[u64], values: &[u64], fields: &[u16], n: usize) -> bool
     requires { ⌜ tooMany (bare (now rows) n) ≡ false ⌝ }
     ensures { λ r. ⌜ r ≡ unknownName (now (rec .entry)) (declarationsFrom (now (rows .entry)) (now (values .entry)) (now (fields .entry)) 0 n) ⌝ }
 {

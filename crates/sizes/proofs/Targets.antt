@@ -20,7 +20,8 @@ use Rattle.definitions.specs.declared.Refusal.{Refusal}
 use Rattle.tables.specs.Tables.{declHere}
 use Rattle.schema.specs.Entries.{entryIn, entriesFrom}
 use Rattle.sizes.specs.Answers.{targetFrom}
-use Rattle.sizes.proofs.WholeBytes.{entries-end, entries-more}
+use Rattle.tables.proofs.Walks.{from-end, from-more}
+use Rattle.sizes.proofs.WholeBytes.{entries}
 
 pub target-as : (s : Text) (name : Part) (d : Decl) {a : Bool} → a ≡ sameName s (d .id) name → {b : Bool} → b ≡ isFrame (d .desc) → {r : Bool} → r ≡ (a && b)
     → r ≡ (sameName s (d .id) name && isFrame (d .desc))
@@ -40,7 +41,7 @@ looking-start s rows name n = record {
 module _ (s rows : List ℕ) (name : Part) (n i : ℕ) (l : Looking s rows name n i) where
   pub looking-end : n ≤ i → (v f : List ℕ) → Found.Nothing ≡ targetFrom s name 0 (entriesFrom s rows v f 0 n)
   unfolding targetFrom
-  looking-end w v f = ap (targetFrom s name i) (sym (entries-end s rows v f n i w)) ∙ l .left v f
+  looking-end w v f = ap (targetFrom s name i) (sym (from-end (entries s rows v f) n i w)) ∙ l .left v f
 
   module _ (w : i < n) {d : Decl} (ed : d ≡ declHere rows i) {b : Bool} (eb : b ≡ (sameName s (d .id) name && isFrame (d .desc))) where
     -- the test of this entry, and those behind
@@ -51,7 +52,7 @@ module _ (s rows : List ℕ) (name : Part) (n i : ℕ) (l : Looking s rows name 
     split {t} ht v f =
         ap (λ (t : Bool). elim t [ true ↦ Found.At i | false ↦ targetFrom s name (i + 1) (entriesFrom s rows v f (i + 1) (n - (i + 1))) ])
         (sym ht ∙ eb ∙ ap (λ (d : Decl). sameName s (d .id) name && isFrame (d .desc)) ed)
-        ∙ ap (targetFrom s name i) (sym (entries-more s rows v f n i w)) ∙ l .left v f
+        ∙ ap (targetFrom s name i) (sym (from-more (entries s rows v f) n i w)) ∙ l .left v f
 
     pub looking-found : b ≡ true → (v f : List ℕ) → Found.At i ≡ targetFrom s name 0 (entriesFrom s rows v f 0 n)
     looking-found hb = split hb

@@ -1,16 +1,17 @@
 -- Refusal 8: kind by kind, field by field, declaration by declaration.
 -- Assumes nothing.
-use Prim.Native.Nat.{ℕ, suc, _+_, _*_, _-_, _≤_, _<_}
+use Prim.Native.Nat.{ℕ, _+_, _*_, _-_, _/_, _≤_, _<_}
 use mathlib.Core.Bool.{Bool, true, false, _&&_, _||_}
-use mathlib.Core.List.{List, [], _∷_}
+use mathlib.Core.List.{List}
 use mathlib.Core.Path.{_≡_, refl, sym, ap, _∙_}
 use native.Mathlib.Nat.{sub-zero}
 use native.Mathlib.Omega.{arith}
 use borrow.Author.Tests.{eq-eqb, ne-eqb}
 use lib.ListN.{getD}
-use Rattle.definitions.specs.Bytes.{Text}
-use Rattle.definitions.specs.Sizes.{Row, totalOf, EnumOf, enumIs, noEnum, enumOf}
+use Rattle.definitions.specs.Bytes.{Text, any}
+use Rattle.definitions.specs.Sizes.{Row, Entry, totalOf, enumOf}
 use Rattle.definitions.specs.Refusals.{notWhole, raggedSize, raggedArray, isOptional, raggedEnum, raggedDesc, raggedField, ragged}
+use Rattle.definitions.specs.declared.EnumOf.{EnumOf}
 use Rattle.definitions.specs.declared.Cond.{Cond}
 use Rattle.definitions.specs.declared.Field.{Field}
 use Rattle.definitions.specs.declared.FieldDesc.{FieldDesc}
@@ -19,11 +20,10 @@ use Rattle.definitions.specs.declared.MaybePart.{MaybePart}
 use Rattle.definitions.specs.declared.Part.{Part}
 use Rattle.definitions.specs.declared.Size.{Size}
 use Rattle.tables.specs.Tables.{countHere, fieldHere, fieldsFrom, rowsFrom}
-use Rattle.references.proofs.Turns.{fields-start, fields-end, fields-more}
-use Rattle.rows.specs.Enums.{enumType}
-use Rattle.rows.specs.declared.EnumType.{EnumType}
+use Rattle.tables.proofs.Walks.{Indexed, walk-end, walk-found, walk-turn, fields-start, any-fields-end, any-fields-found, any-fields-turn}
+use Rattle.tables.proofs.FieldKinds.{kindOf, kind-read}
 use Rattle.schema.specs.Entries.{entryIn, entriesFrom}
-use Rattle.sizes.specs.Answers.{raggedType, raggedFields}
+use Rattle.sizes.specs.Answers.{raggedFields}
 
 -- ---- one field
 
@@ -36,8 +36,8 @@ bits-some n h e = e ∙ sym (ap (λ (b : Bool). b || notWhole n) (ne-eqb n 0 h))
 pub ragged-as : {z c : Size} {b : Bool} → z ≡ c → b ≡ raggedSize c → b ≡ raggedSize z
 ragged-as e h = h ∙ ap raggedSize (sym e)
 
-pub type-as : {t c : EnumType} {b : Bool} → t ≡ c → b ≡ raggedType c → b ≡ raggedType t
-type-as e h = h ∙ ap raggedType (sym e)
+pub type-as : {t c : EnumOf} {b : Bool} → t ≡ c → b ≡ raggedEnum c → b ≡ raggedEnum t
+type-as e h = h ∙ ap raggedEnum (sym e)
 
 module _ {a : Bool} (b : Bool) where
   pub and-first : a ≡ true → b ≡ (a && b)
@@ -48,10 +48,6 @@ module _ {a : Bool} (b : Bool) where
 
 pub optional-as : {c d : Cond} {b : Bool} → c ≡ d → b ≡ isOptional d → b ≡ isOptional c
 optional-as e h = h ∙ ap isOptional (sym e)
-
-type-ragged : (x : EnumOf) → raggedType (enumType x) ≡ raggedEnum x
-type-ragged (enumIs width isOpen isComplete) = refl
-type-ragged noEnum = refl
 
 module _ (s : Text) (rows : List Row) where
   pub array-width : {w : MaybeNumber} (t : MaybePart) {n : ℕ} → w ≡ MaybeNumber.Some n
@@ -74,13 +70,39 @@ module _ (s : Text) (rows : List Row) where
         → b ≡ raggedDesc s rows optional d
     desc-scalar e ea eb = eb ∙ ap (λ (a : Bool). optional && a) ea ∙ ap (raggedDesc s rows optional) (sym e)
 
-    pub desc-typedef : {id type : Part} → d ≡ FieldDesc.Typedef id type → {t : EnumType} → t ≡ enumType (enumOf s rows type) → {a : Bool} → a ≡ raggedType t
+    pub desc-typedef : {id type : Part} → d ≡ FieldDesc.Typedef id type → {t : EnumOf} → t ≡ enumOf s rows type → {a : Bool} → a ≡ raggedEnum t
         → {b : Bool} → b ≡ (optional && a) → b ≡ raggedDesc s rows optional d
     desc-typedef {id} {type} e et ea eb =
-        eb ∙ ap (λ (a : Bool). optional && a) (ea ∙ ap raggedType et ∙ type-ragged (enumOf s rows type)) ∙ ap (raggedDesc s rows optional) (sym e)
+        eb ∙ ap (λ (a : Bool). optional && a) (ea ∙ ap raggedEnum et) ∙ ap (raggedDesc s rows optional) (sym e)
 
   pub field-ragged : (f : Field) {o : Bool} → o ≡ isOptional (f .cond) → {b : Bool} → b ≡ raggedDesc s rows o (f .desc) → b ≡ raggedField s rows f
   field-ragged f eo eb = eb ∙ ap (λ (o : Bool). raggedDesc s rows o (f .desc)) eo
+
+-- ---- a field by the number of its kind
+
+module _ (s : Text) (rows : List Row) where
+  whole : (optional : Bool) (d : FieldDesc) → kindOf d < 8 → false ≡ raggedDesc s rows optional d
+  whole optional (FieldDesc.Checksum of) h = refl
+  whole optional (FieldDesc.Padding size) h = refl
+  whole optional (FieldDesc.Size of width) h = refl
+  whole optional (FieldDesc.Count of width) h = refl
+  whole optional (FieldDesc.ElementSize of width) h = refl
+  whole optional FieldDesc.Body h = refl
+  whole optional (FieldDesc.Payload modifier) h = refl
+  whole optional (FieldDesc.FixedScalar width value) h = refl
+  whole optional (FieldDesc.FixedEnum type tag) h = refl
+  whole optional (FieldDesc.Reserved width) h = refl
+  whole optional (FieldDesc.Array id width type modifier size) h = absurd (omega arith)
+  whole optional (FieldDesc.Scalar id width) h = absurd (omega arith)
+  whole optional (FieldDesc.Flag id) h = refl
+  whole optional (FieldDesc.Typedef id type) h = absurd (omega arith)
+
+  module _ (values : List ℕ) (at : ℕ) where
+    pub here-whole : {kind : ℕ} → kind ≡ getD values (at / 16 * 17 + 1) 0 → kind < 8 → false ≡ raggedField s rows (fieldHere values at)
+    here-whole ek h = whole (isOptional (fieldHere values at .cond)) (fieldHere values at .desc) (omega (arith, kind-read values at))
+
+    pub here-read : {f : Field} → f ≡ fieldHere values at → {b : Bool} → b ≡ raggedField s rows f → b ≡ raggedField s rows (fieldHere values at)
+    here-read ef eb = eb ∙ ap (raggedField s rows) ef
 
 -- ---- the fields of a declaration
 
@@ -91,51 +113,49 @@ module _ (s : Text) (rows : List Row) (values fields : List ℕ) (j n : ℕ) whe
   module _ (k : ℕ) {e : Bool} (inv : raggedFields s rows (fieldsFrom values fields (j + k) (n - k)) ≡ e) where
     pub fields-whole : n ≤ k → false ≡ e
     unfolding raggedFields
-    fields-whole h = ap (raggedFields s rows) (sym (fields-end values fields j n k h)) ∙ inv
+    fields-whole h = any-fields-end (raggedField s rows) values fields j n k inv h
 
-    module _ (h : k < n) {f : Field} (ef : f ≡ fieldHere values (getD fields (j + k) 0)) {b : Bool} (eb : b ≡ raggedField s rows f) where
-      split : (b || raggedFields s rows (fieldsFrom values fields (j + (k + 1)) (n - (k + 1)))) ≡ e
-      unfolding raggedFields
-      split =
-          ap (λ (b : Bool). b || raggedFields s rows (fieldsFrom values fields (j + (k + 1)) (n - (k + 1)))) (eb ∙ ap (raggedField s rows) ef)
-          ∙ ap (raggedFields s rows) (sym (fields-more values fields j n k h)) ∙ inv
+    module _ (h : k < n) {at : ℕ} (ea : at ≡ getD fields (j + k) 0) {b : Bool} (eb : b ≡ raggedField s rows (fieldHere values at)) where
+      tested : raggedField s rows (fieldHere values (getD fields (j + k) 0)) ≡ b
+      tested = sym (eb ∙ ap (λ (p : ℕ). raggedField s rows (fieldHere values p)) ea)
 
       pub fields-found : b ≡ true → true ≡ e
-      fields-found hb = ap (λ (b : Bool). b || raggedFields s rows (fieldsFrom values fields (j + (k + 1)) (n - (k + 1)))) (sym hb) ∙ split
+      unfolding raggedFields
+      fields-found hb = any-fields-found (raggedField s rows) values fields j n k inv h (tested ∙ hb)
 
       pub fields-turn : b ≡ false → raggedFields s rows (fieldsFrom values fields (j + (k + 1)) (n - (k + 1))) ≡ e
-      fields-turn hb = ap (λ (b : Bool). b || raggedFields s rows (fieldsFrom values fields (j + (k + 1)) (n - (k + 1)))) (sym hb) ∙ split
+      unfolding raggedFields
+      fields-turn hb = any-fields-turn (raggedField s rows) values fields j n k inv h (tested ∙ hb)
 
 -- ---- the entries that the tables give, from the i-th on
 
-module _ (s rows v f : List ℕ) (n : ℕ) where
-  pub entries-end : (i : ℕ) → n ≤ i → entriesFrom s rows v f i (n - i) ≡ []
+module _ (s rows v f : List ℕ) where
+  pub entries : Indexed (entryIn s rows v f) (entriesFrom s rows v f)
   unfolding entriesFrom
-  entries-end i h = ap (entriesFrom s rows v f i) (let z : n - i ≡ 0 = omega arith in z)
+  entries = record { none = λ i. refl; more = λ i m. refl }
 
-  pub entries-more : (i : ℕ) → i < n
-      → entriesFrom s rows v f i (n - i) ≡ entryIn s rows v f i ∷ entriesFrom s rows v f (i + 1) (n - (i + 1))
-  unfolding entriesFrom
-  entries-more i h = ap (entriesFrom s rows v f i) (let z : n - i ≡ suc (n - (i + 1)) = omega arith in z)
+  abbrev raggedEntry : Entry → Bool
+  raggedEntry e = any (raggedField s (e .earlier)) (e .declaration .fields)
 
-  pub entries-ragged : ragged s (entriesFrom s rows v f 0 (n - 0)) ≡ ragged s (entriesFrom s rows v f 0 n)
-  entries-ragged = ap (λ (m : ℕ). ragged s (entriesFrom s rows v f 0 m)) (sub-zero n)
+  module _ (n : ℕ) where
+    pub entries-ragged : ragged s (entriesFrom s rows v f 0 (n - 0)) ≡ ragged s (entriesFrom s rows v f 0 n)
+    entries-ragged = ap (λ (m : ℕ). ragged s (entriesFrom s rows v f 0 m)) (sub-zero n)
 
-  module _ (i : ℕ) {e : Bool} (inv : ragged s (entriesFrom s rows v f i (n - i)) ≡ e) where
-    pub entries-whole : n ≤ i → false ≡ e
-    unfolding ragged
-    entries-whole h = ap (ragged s) (sym (entries-end i h)) ∙ inv
+    module _ (i : ℕ) {e : Bool} (inv : ragged s (entriesFrom s rows v f i (n - i)) ≡ e) where
+      pub entries-whole : n ≤ i → false ≡ e
+      unfolding ragged
+      entries-whole h = walk-end entries raggedEntry n i inv h
 
-    module _ (h : i < n) {m : ℕ} (em : m ≡ countHere rows i) {b : Bool} (eb : b ≡ raggedFields s (rowsFrom rows 0 i) (fieldsFrom v f (i * 64) m)) where
-      split-entries : (b || ragged s (entriesFrom s rows v f (i + 1) (n - (i + 1)))) ≡ e
-      unfolding ragged raggedFields
-      split-entries =
-          ap (λ (b : Bool). b || ragged s (entriesFrom s rows v f (i + 1) (n - (i + 1))))
-          (eb ∙ ap (λ (m : ℕ). raggedFields s (rowsFrom rows 0 i) (fieldsFrom v f (i * 64) m)) em)
-          ∙ ap (ragged s) (sym (entries-more i h)) ∙ inv
+      module _ (h : i < n) {m : ℕ} (em : m ≡ countHere rows i)
+          {b : Bool} (eb : b ≡ raggedFields s (rowsFrom rows 0 i) (fieldsFrom v f (i * 64) m)) where
+        entry-tested : raggedEntry (entryIn s rows v f i) ≡ b
+        unfolding raggedFields
+        entry-tested = sym (eb ∙ ap (λ (m : ℕ). raggedFields s (rowsFrom rows 0 i) (fieldsFrom v f (i * 64) m)) em)
 
-      pub entries-found : b ≡ true → true ≡ e
-      entries-found hb = ap (λ (b : Bool). b || ragged s (entriesFrom s rows v f (i + 1) (n - (i + 1)))) (sym hb) ∙ split-entries
+        pub entries-found : b ≡ true → true ≡ e
+        unfolding ragged
+        entries-found hb = walk-found entries raggedEntry n i inv h (entry-tested ∙ hb)
 
-      pub entries-turn : b ≡ false → ragged s (entriesFrom s rows v f (i + 1) (n - (i + 1))) ≡ e
-      entries-turn hb = ap (λ (b : Bool). b || ragged s (entriesFrom s rows v f (i + 1) (n - (i + 1)))) (sym hb) ∙ split-entries
+        pub entries-turn : b ≡ false → ragged s (entriesFrom s rows v f (i + 1) (n - (i + 1))) ≡ e
+        unfolding ragged
+        entries-turn hb = walk-turn entries raggedEntry n i inv h (entry-tested ∙ hb)

@@ -6,7 +6,7 @@ use mathlib.Core.Path.{_≡_}
 use Prim.Native.Nat.{ℕ, _+_}
 use Rattle.definitions.specs.Bytes.{Text, any}
 use Rattle.definitions.specs.Sizes.{Schema, Row, sameName, newSchema}
-use Rattle.definitions.specs.Refusals.{notWhole, raggedField, ragged, large, isFrame}
+use Rattle.definitions.specs.Refusals.{raggedField, ragged, large, isFrame}
 use Rattle.definitions.specs.declared.Field.{Field}
 use Rattle.definitions.specs.declared.Found.{Found}
 use Rattle.definitions.specs.declared.Head.{Head}
@@ -14,14 +14,8 @@ use Rattle.definitions.specs.declared.Part.{Part}
 use Rattle.definitions.specs.declared.Refusal.{Refusal}
 use Rattle.definitions.specs.declared.Verdict.{Verdict}
 use Rattle.tables.specs.Tables.{declarationsFrom}
-use Rattle.rows.specs.declared.EnumType.{EnumType}
 use Rattle.schema.specs.Entries.{entriesFrom, sizedRows}
 use Rattle.sizes.specs.declared.Sizing.{Sizing}
-
--- `raggedEnum` by value
-abbrev pub raggedType : EnumType → Bool
-raggedType (EnumType.Enum width isOpen isComplete) = notWhole width
-raggedType EnumType.None = false
 
 -- 8 in one declaration
 unfoldable pub raggedFields : Text → List Row → List Field → Bool

@@ -3,8 +3,8 @@
 use annotate::ArrayParts;
 use definitions::Cond;
 use definitions::Decl;
-use definitions::DeclDesc;
 use definitions::ElementSize;
+use definitions::EnumOf;
 use definitions::Field;
 use definitions::FieldDesc;
 use definitions::Found;
@@ -14,7 +14,6 @@ use definitions::MaybePart;
 use definitions::Part;
 use definitions::Refusal;
 use definitions::Size;
-use rows::EnumType;
 ghost use mathlib.Core.Path.{_≡_};
 ghost use mathlib.Core.Bool.{_&&_};
 ghost use mathlib.Core.List.{List};
@@ -22,11 +21,11 @@ ghost use Prim.Native.Nat.{ℕ, _*_, _≤_};
 ghost use lib.ListN.{length};
 ghost use Rattle.definitions.specs.Bytes.{Text};
 ghost use Rattle.definitions.specs.Sizes.{sameName, typedElement, elementSize};
-ghost use Rattle.definitions.specs.Refusals.{notWhole, raggedSize, raggedArray, isOptional, raggedDesc, raggedField, ragged, isFrame};
+ghost use Rattle.definitions.specs.Refusals.{notWhole, raggedSize, raggedArray, isOptional, raggedEnum, raggedDesc, raggedField, ragged, isFrame};
 ghost use Rattle.definitions.specs.declared.Size.{Size};
-ghost use Rattle.tables.specs.Tables.{Tables, tablesOf, rowsOf, fieldsOf, rowsFrom};
+ghost use Rattle.tables.specs.Tables.{Tables, tablesOf, rowsOf, fieldHere, fieldsOf, rowsFrom};
 ghost use Rattle.schema.specs.Entries.{entriesFrom};
-ghost use Rattle.sizes.specs.Answers.{raggedType, raggedFields, targetFrom, behindSchema, Checked};
+ghost use Rattle.sizes.specs.Answers.{raggedFields, targetFrom, behindSchema, Checked};
 
 // ---- `element_size`
 
@@ -53,7 +52,7 @@ pub fn element_size(
     rec: &[u8],
     rows: &[u64],
     values: &[u64],
-    fields: &[usize],
+    fields: &[u16],
     i: usize,
     n: usize,
     array: ArrayParts,
@@ -118,16 +117,16 @@ fn ragged_array(rec: &[u8], rows: &[u64], i: usize, width: MaybeNumber, type_id:
     }
 }
 
-fn ragged_type(of: EnumType) -> bool
-    ensures { λ r. ⌜ r ≡ raggedType of ⌝ }
+fn ragged_enum(of: EnumOf) -> bool
+    ensures { λ r. ⌜ r ≡ raggedEnum of ⌝ }
 {
     match of {
-        EnumType::Enum {
+        EnumOf::Enum {
             width,
             open: _,
             complete: _,
         } => not_whole(width),
-        EnumType::None => false,
+        EnumOf::None => false,
     }
 }
 
@@ -177,7 +176,7 @@ fn ragged_desc(rec: &[u8], rows: &[u64], i: usize, optional: bool, desc: FieldDe
         FieldDesc::Flag { id: _ } => false,
         FieldDesc::Typedef { id: _, type_id } => both(
             optional,
-            ragged_type(rows::enum_of(rec, rows, i, type_id)),
+            ragged_enum(rows::enum_of(rec, rows, i, type_id)),
         ),
     }
 }
@@ -199,11 +198,21 @@ fn ragged_field(rec: &[u8], rows: &[u64], i: usize, f: Field) -> bool
     ragged_desc(rec, rows, i, is_optional(cond), desc)
 }
 
+// The field whose place is `at`. No kind below 8 is ragged; of those no more is read.
+fn ragged_here(rec: &[u8], rows: &[u64], i: usize, values: &[u64], at: usize) -> bool
+    ensures { λ r. ⌜ r ≡ raggedField (now (rec .entry)) (rowsFrom (now (rows .entry)) 0 i) (fieldHere (now (values .entry)) at) ⌝ }
+{
+    if tables::kind_here(values, at) < 8 {
+        return false;
+    }
+    ragged_field(rec, rows, i, tables::field_here(values, at))
+}
+
 fn ragged_fields(
     rec: &[u8],
     rows: &[u64],
     values: &[u64],
-    fields: &[usize],
+    fields: &[u16],
     i: usize,
     n: usize,
 ) -> bool
@@ -212,8 +221,8 @@ fn ragged_fields(
 {
     let mut k = 0;
     while k < n {
-        let f = references::field_in(values, fields, i, k);
-        if ragged_field(rec, rows, i, f) {
+        let at = references::place_in(fields, i, k);
+        if ragged_here(rec, rows, i, values, at) {
             return true;
         }
         k += 1;
@@ -221,7 +230,7 @@ fn ragged_fields(
     false
 }
 
-pub fn ragged(rec: &[u8], rows: &[u64], values: &[u64], fields: &[usize], n: usize) -> bool
+pub fn ragged(rec: &[u8], rows: &[u64], values: &[u64], fields: &[u16], n: usize) -> bool
     ensures { λ r. let t : Tables = tablesOf (now (rec .entry)) (now (rows .entry)) (now (values .entry)) (now (fields .entry)) in
         ⌜ r ≡ ragged (t .source) (entriesFrom (t .source) (t .rows) (t .values) (t .fields) 0 n) ⌝ }
 {
@@ -238,28 +247,12 @@ pub fn ragged(rec: &[u8], rows: &[u64], values: &[u64], fields: &[usize], n: usi
 
 // ---- 9: the target is no packet or struct; no field is looked at, so any tables of fields will do
 
-fn is_frame(desc: DeclDesc) -> bool
-    ensures { λ r. ⌜ r ≡ isFrame desc ⌝ }
-{
-    match desc {
-        DeclDesc::Checksum { width: _ } => false,
-        DeclDesc::CustomField { width: _ } => false,
-        DeclDesc::Enum {
-            width: _,
-            open: _,
-            complete: _,
-        } => false,
-        DeclDesc::Packet { parent_id: _ } => true,
-        DeclDesc::Struct { parent_id: _ } => true,
-    }
-}
-
 fn is_target(rec: &[u8], name: Part, d: Decl) -> bool
     ensures { λ r. ⌜ r ≡ (sameName (now (rec .entry)) (d .id) name && isFrame (d .desc)) ⌝ }
 {
     let id = d.id;
     let desc = d.desc;
-    both(names::same_name(rec, id, name), is_frame(desc))
+    both(names::same_name(rec, id, name), tables::is_frame(desc))
 }
 
 // The index of the first packet or struct with the target's name.
@@ -291,7 +284,7 @@ fn behind_schema(
     head: Head,
     rows: &[u64],
     values: &[u64],
-    fields: &[usize],
+    fields: &[u16],
     n: usize,
 ) -> Sizing
     ensures { λ r. let t : Tables = tablesOf (now (rec .entry)) (now (rows .entry)) (now (values .entry)) (now (fields .entry)) in
@@ -313,7 +306,7 @@ pub fn check_sizes(
     head: Head,
     rows: &mut [u64],
     values: &[u64],
-    fields: &[usize],
+    fields: &[u16],
     n: usize,
 ) -> Sizing
     requires { ⌜ n * 11 ≤ length (now rows) ⌝ }

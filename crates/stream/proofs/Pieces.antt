@@ -77,10 +77,10 @@ module _ (id type : Text) (elem : Elem) (l : List Stmt) where
 pub field-split : (m : Modifier) (w : ℕ) (a : Array) (l : List Stmt) → fieldLines m w a l ≡ fieldLines m w a [] ++ l
 field-split Modifier.None w a l = mode-split (a .id) (a .type) (a .elem) l (a .mode) (a .elementSize) (a .arraySize)
 field-split (Modifier.Plus n) w a l =
-    ap (λ (t : List Stmt). Stmt.one (Line.lower w (sizeName a) n) ∷ t)
+    ap (λ (t : List Stmt). Stmt.one (Line.minus w (sizeName a) n) ∷ t)
     (mode-split (a .id) (a .type) (a .elem) l (a .mode) (a .elementSize) (a .arraySize))
 field-split (Modifier.Minus n) w a l =
-    ap (λ (t : List Stmt). Stmt.one (Line.raise w (sizeName a) n) ∷ t)
+    ap (λ (t : List Stmt). Stmt.one (Line.plus w (sizeName a) n) ∷ t)
     (mode-split (a .id) (a .type) (a .elem) l (a .mode) (a .elementSize) (a .arraySize))
 
 -- what the padding after an array adds

@@ -45,7 +45,7 @@ module _ (c : Setting) where
   -- the lines of a run that has begun, with its total
   abbrev pendingText : ℕ → List Chunk → Text
   pendingText n [] = []
-  pendingText n (d ∷ ds) = blockText (Block.checked (c .endianness) n (d ∷ ds))
+  pendingText n (d ∷ ds) = blockText (Block.checked (c .options .endianness) n (d ∷ ds))
 
   abbrev soFar : ℕ → List Chunk → List Block → Text
   soFar n un code = render (program code) ++ pendingText n un
@@ -68,11 +68,11 @@ module _ (c : Setting) where
   -- ---- the flush
 
   flushed-text : (n offset shift : ℕ) (d : Chunk) (ds : List Chunk) (code : List Block) → n ≡ offset
-      → soFar 0 [] (code ++ (Block.checked (c .endianness) offset (d ∷ ds) ∷ [])) ≡ soFar n (d ∷ ds) code
+      → soFar 0 [] (code ++ (Block.checked (c .options .endianness) offset (d ∷ ds) ∷ [])) ≡ soFar n (d ∷ ds) code
   flushed-text n offset shift d ds code e =
-      append-nil (render (program (code ++ (Block.checked (c .endianness) offset (d ∷ ds) ∷ []))))
-      ∙ program-more code (Block.checked (c .endianness) offset (d ∷ ds))
-      ∙ ap (λ (k : ℕ). render (program code) ++ blockText (Block.checked (c .endianness) k (d ∷ ds))) (sym e)
+      append-nil (render (program (code ++ (Block.checked (c .options .endianness) offset (d ∷ ds) ∷ []))))
+      ∙ program-more code (Block.checked (c .options .endianness) offset (d ∷ ds))
+      ∙ ap (λ (k : ℕ). render (program code) ++ blockText (Block.checked (c .options .endianness) k (d ∷ ds))) (sym e)
 
   last : Law []
   unfolding parseAll checkCode stream runBits
@@ -82,7 +82,7 @@ module _ (c : Setting) where
       ap writes
       (sym (append-nil (soFar (total offset shift []) (d ∷ ds) code)
       ∙ sym (flushed-text (total offset shift []) offset shift d ds code (let e : shift ≡ 0 = t .whole refl in omega arith))
-      ∙ append-nil (render (program (code ++ (Block.checked (c .endianness) offset (d ∷ ds) ∷ []))))))
+      ∙ append-nil (render (program (code ++ (Block.checked (c .options .endianness) offset (d ∷ ds) ∷ []))))))
   last offset shift (b ∷ bs) nr (d ∷ ds) code t = refl
 
   -- ---- one more field
@@ -117,7 +117,7 @@ module _ (c : Setting) where
         let z : shift ≡ 0 = t .whole refl in
         let n : total offset shift (a ∷ later) ≡ offset = omega (arith, run-no c a later isNo) in
         ap after (parse-no c a later (at offset shift [] nr (d ∷ ds) code) isNo)
-        ∙ emits (parseUnchecked c shift a later) shift [] nr (code ++ (Block.checked (c .endianness) offset (d ∷ ds) ∷ [])) (t .whole)
+        ∙ emits (parseUnchecked c shift a later) shift [] nr (code ++ (Block.checked (c .options .endianness) offset (d ∷ ds) ∷ [])) (t .whole)
         ∙ ap (λ (x : Text). ahead x (emitting (parseUnchecked c shift a later) (stream c (seen shift [] nr []) later)))
         (flushed-text (total offset shift (a ∷ later)) offset shift d ds code n)
         ∙ ap (ahead (soFar (total offset shift (a ∷ later)) (d ∷ ds) code)) (sym (stream-no c a later (seen shift [] nr (d ∷ ds)) isNo))
@@ -139,19 +139,19 @@ module _ (c : Setting) where
       -- the text so far, when the chunk was closed
       close-text : (ds : List Chunk) → (ds ≡ [] → offset ≡ 0) → sum % 8 ≡ 0
           → soFar (total (offset + sum / 8) 0 later) (ds ++ (isClosed ∷ [])) code
-          ≡ soFar (offset + (sum + runBits c later) / 8) ds code ++ (checkText (isPending ds) ((sum + runBits c later) / 8) ++ chunkText (c .endianness) nr more)
+          ≡ soFar (offset + (sum + runBits c later) / 8) ds code ++ (checkText (isPending ds) ((sum + runBits c later) / 8) ++ chunkText (c .options .endianness) nr more)
       unfolding checkText
       close-text [] z whole =
           let o : offset ≡ 0 = z refl in
           let e : total (offset + sum / 8) 0 later ≡ (sum + runBits c later) / 8 = omega arith in
-          ap (λ (x : Text). render (program code) ++ x) (run-first (c .endianness) (total (offset + sum / 8) 0 later) isClosed
-          ∙ ap (λ (k : ℕ). checkText false k ++ chunkText (c .endianness) nr more) e)
-          ∙ ap (λ (x : Text). x ++ (checkText false ((sum + runBits c later) / 8) ++ chunkText (c .endianness) nr more)) (sym (append-nil (render (program code))))
+          ap (λ (x : Text). render (program code) ++ x) (run-first (c .options .endianness) (total (offset + sum / 8) 0 later) isClosed
+          ∙ ap (λ (k : ℕ). checkText false k ++ chunkText (c .options .endianness) nr more) e)
+          ∙ ap (λ (x : Text). x ++ (checkText false ((sum + runBits c later) / 8) ++ chunkText (c .options .endianness) nr more)) (sym (append-nil (render (program code))))
       close-text (d ∷ ds) z whole =
           let e : total (offset + sum / 8) 0 later ≡ offset + (sum + runBits c later) / 8 = omega arith in
-          ap (λ (x : Text). render (program code) ++ x) (run-more (c .endianness) (total (offset + sum / 8) 0 later) (d ∷ ds) isClosed
-          ∙ ap (λ (k : ℕ). blockText (Block.checked (c .endianness) k (d ∷ ds)) ++ chunkText (c .endianness) nr more) e)
-          ∙ sym (append-assoc (render (program code)) (blockText (Block.checked (c .endianness) (offset + (sum + runBits c later) / 8) (d ∷ ds))) (chunkText (c .endianness) nr more))
+          ap (λ (x : Text). render (program code) ++ x) (run-more (c .options .endianness) (total (offset + sum / 8) 0 later) (d ∷ ds) isClosed
+          ∙ ap (λ (k : ℕ). blockText (Block.checked (c .options .endianness) k (d ∷ ds)) ++ chunkText (c .options .endianness) nr more) e)
+          ∙ sym (append-assoc (render (program code)) (blockText (Block.checked (c .options .endianness) (offset + (sum + runBits c later) / 8) (d ∷ ds))) (chunkText (c .options .endianness) nr more))
 
       -- the goal, with the two tests taken out: an octet boundary, more than 64 bits
       abbrev Goal : Bool → Bool → Type 0

@@ -98,9 +98,9 @@ line-leads d (Line.check n c) =
 line-leads d (Line.set b x v) = indent-leads d ▸ before-leads b ▸ piece x ▸ piece (text " = ") ▸ src-leads v ▸ piece (text ";\n")
 line-leads d (Line.setCast x type v) = indent-leads d ▸ piece x ▸ piece (text " = ") ▸ cast-leads type v ▸ piece (text ";\n")
 line-leads d (Line.setTo b x e) = indent-leads d ▸ before-leads b ▸ piece x ▸ piece (text " = ") ▸ expr-leads e ▸ piece (text ";\n")
-line-leads d (Line.lower w x n) =
+line-leads d (Line.minus w x n) =
     indent-leads d ▸ piece x ▸ piece (text " = ") ▸ piece x ▸ piece (text " - +") ▸ piece (decimal n) ▸ piece (text ";\n")
-line-leads d (Line.raise w x n) =
+line-leads d (Line.plus w x n) =
     indent-leads d ▸ piece x ▸ piece (text " = ") ▸ piece x ▸ piece (text " - -") ▸ piece (decimal n) ▸ piece (text ";\n")
 line-leads d (Line.keep x s) = indent-leads d ▸ piece x ▸ piece (text " = ") ▸ piece s ▸ piece (text ";\n")
 line-leads d (Line.front b x s n) =

@@ -7,10 +7,10 @@ use mathlib.Core.List.{List, [], _∷_, _++_}
 use Prim.Native.Nat.{ℕ, _+_, _/_, _%_}
 use lib.Dec.{eqb, ltb}
 use Rattle.definitions.specs.Bytes.{Text}
-use Rattle.definitions.specs.Sizes.{Annotated}
+use Rattle.definitions.specs.Sizes.{Annotated, staticWidth}
 use Rattle.definitions.specs.Lines.{Expr, lineText, linesText, render}
 use Rattle.definitions.specs.Blocks.{Bit, checkSize, chunkLines, Block, blockLines, program}
-use Rattle.definitions.specs.FieldParser.{Setting, staticWidth, bitOf, nextNr, isBit, parseUnchecked, Emit, appends, silent, Outcome, refused, accepted}
+use Rattle.definitions.specs.FieldParser.{Setting, bitOf, nextNr, isBit, parseUnchecked, Emit, appends, silent, Outcome, refused, accepted}
 use Rattle.definitions.specs.FieldParser as parser
 use Rattle.definitions.specs.declared.EndiannessValue.{EndiannessValue}
 use Rattle.definitions.specs.declared.Refusal.{Refusal}
@@ -90,7 +90,7 @@ calm s = record { shift = s .shift; chunk = s .chunk; chunkNr = s .chunkNr; pend
 abbrev pub closing : Setting → State → Annotated → List Annotated → Text
 closing c s a later =
     checkText (s .pending) ((s .shift + widthOf a + runBits c later) / 8)
-    ++ chunkText (c .endianness) (s .chunkNr) (grown c s a)
+    ++ chunkText (c .options .endianness) (s .chunkNr) (grown c s a)
 
 -- the fields from one on, at a state
 unfoldable pub stream : Setting → State → List Annotated → Result

@@ -6,8 +6,11 @@ use mathlib.Core.Path.{_≡_, refl, sym, ap, _∙_}
 use native.Mathlib.Nat.{add-zero}
 use native.Mathlib.Omega.{arith}
 use lib.ListN.{length, getD, List·getD-eq-default}
+use Rattle.definitions.specs.Record.{partOf}
+use Rattle.definitions.specs.declared.Cond.{Cond}
 use Rattle.definitions.specs.declared.Field.{Field}
 use Rattle.definitions.specs.declared.Decl.{Decl}
+use Rattle.definitions.specs.declared.Part.{Part}
 use Rattle.tables.specs.Words.{descOf, condOf, fieldOf, declOf}
 use Rattle.tables.specs.Tables.{fieldHere, declHere}
 
@@ -87,6 +90,24 @@ module _ (t : List ℕ) where
   pub decl-there : (i : ℕ) {r : Decl} → r ≡ declOf t (i * 11) → r ≡ declHere t i
   unfolding declHere
   decl-there i e = e
+
+  -- a part of the entry alone
+  pub cond-past : (at : ℕ) → length t / 17 < at / 16 → {r : Cond} → r ≡ condOf t (length t) → r ≡ fieldHere t at .cond
+  cond-past at h e = e ∙ ap (λ (f : Field). f .cond) (field-past at h refl)
+
+  pub cond-there : (at : ℕ) {r : Cond} → r ≡ condOf t (at / 16 * 17) → r ≡ fieldHere t at .cond
+  unfolding fieldHere
+  cond-there at e = e
+
+  pub id-past : (i : ℕ) → length t / 11 < i → {r : Part} → r ≡ partOf (getD t (length t + 1) 0) (getD t (length t + 2) 0) → r ≡ declHere t i .id
+  id-past i h e = e ∙ ap (λ (d : Decl). d .id) (decl-past i h refl)
+
+  pub id-there : (i : ℕ) {r : Part} → r ≡ partOf (getD t (i * 11 + 1) 0) (getD t (i * 11 + 2) 0) → r ≡ declHere t i .id
+  unfolding declHere
+  id-there i e = e
+
+  pub kind-past : (at : ℕ) → length t / 17 < at / 16 → 0 ≡ getD t (at / 16 * 17 + 1) 0
+  kind-past at h = sym (List·getD-eq-default t 0 (omega arith))
 
   pub count-past : (i : ℕ) → length t / 11 < i → 0 ≡ getD t (i * 11 + 7) 0
   count-past i h = sym (List·getD-eq-default t 0 (omega arith))

@@ -5,3 +5,4 @@ pub mod Reading
 pub mod Writing
 pub mod Again
 pub mod Sized
+pub mod FieldKinds

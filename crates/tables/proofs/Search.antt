@@ -13,7 +13,6 @@ use Rattle.definitions.specs.Record.{onFound}
 use Rattle.definitions.specs.Sizes.{sameName}
 use Rattle.definitions.specs.Refusals.{find}
 use Rattle.definitions.specs.declared.Part.{Part}
-use Rattle.definitions.specs.declared.Decl.{Decl}
 use Rattle.definitions.specs.declared.DeclDesc.{DeclDesc}
 use Rattle.definitions.specs.declared.Found.{Found}
 use Rattle.tables.specs.Tables.{declHere, declarationsFrom, declsFrom, which}
@@ -32,12 +31,12 @@ module _ (s rows : List ℕ) (name : Part) (n i : ℕ) {e : Found}
   unfolding which declsFrom
   which-end h = rw (let z : n - i ≡ 0 = omega arith in z) at inv
 
-  module _ (h : i < n) {d : Decl} (ed : d ≡ declHere rows i) {r : Bool} (er : r ≡ sameName s (d .id) name) where
+  module _ (h : i < n) {id : Part} (ei : id ≡ declHere rows i .id) {r : Bool} (er : r ≡ sameName s id name) where
     more : n - i ≡ suc (n - (i + 1))
     more = omega arith
 
     named : r ≡ sameName s (declHere rows i .id) name
-    named = er ∙ ap (λ (x : Decl). sameName s (x .id) name) ed
+    named = er ∙ ap (λ (p : Part). sameName s p name) ei
 
     pub which-found : r ≡ true → Found.At i ≡ e
     unfolding which declsFrom

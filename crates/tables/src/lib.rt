@@ -1,6 +1,6 @@
 // The record as values: what the reader read, as numbers of two tables, so that no text is read twice. `rows` has 11 numbers for each declaration, `values`
 // 17 for each field at 17 * (its place / 16); `fields` (document 01, 'Form') has the places of the fields, 64 for each declaration. Each is written whole
-// and read back by one function; what is read back is what was written (proofs/Again).
+// and read back by one function, or a name, a kind or a condition alone; what is read back is what was written (proofs/Again).
 
 use definitions::Cond;
 use definitions::Decl;
@@ -18,6 +18,8 @@ ghost use Prim.Native.Nat.{_+_, _*_, _/_, _<_, _^_};
 ghost use lib.ListN.{getD, set};
 ghost use lib.Seq.{sets};
 ghost use Rattle.definitions.specs.Record.{partOf};
+ghost use Rattle.definitions.specs.Refusals.{isFrame};
+ghost use Rattle.definitions.specs.Sizes.{parentId};
 ghost use Rattle.definitions.specs.declared.FieldDesc.{FieldDesc};
 ghost use Rattle.tables.specs.Words.{bitWord, partWords, maybeWords, maybePartWords, modifierWords, plainWords, typedWords, shapeWords};
 ghost use Rattle.tables.specs.Words.{descWords, condWords, fieldWords, declDescWords, declWords};
@@ -26,22 +28,30 @@ ghost use Rattle.tables.specs.Tables.{fieldHere, declHere, countHere, de
 
 // ---- the entries of a table
 
-// An entry of a table of places, and 0 outside it.
-pub fn get(t: &[usize], i: usize) -> usize
+// A place is below 16,384, so the table of places has 16 bits for each.
+fn place_of(n: u16) -> usize
+    ensures { λ r. ⌜ r ≡ n ⌝ }
+{
+    n as usize
+}
+
+// An entry of the table of places, and 0 outside it.
+pub fn get(t: &[u16], i: usize) -> usize
     ensures { λ r. ⌜ r ≡ getD (now (t .entry)) i 0 ⌝ }
 {
     if i < t.len() {
-        return t[i];
+        return place_of(t[i]);
     }
     0
 }
 
-// Sets an entry of a table of places; nothing is written outside it.
-pub fn put(t: &mut [usize], i: usize, v: usize)
+// Sets an entry of the table of places; nothing is written outside it.
+pub fn put(t: &mut [u16], i: usize, v: usize)
+    requires { ⌜ v < 2 ^ 16 ⌝ }
     ensures { λ _. ⌜ now (t .exit) ≡ set (now (t .entry)) i v ⌝ }
 {
     if i < t.len() {
-        t[i] = v;
+        t[i] = v as u16;
     }
 }
 
@@ -283,6 +293,28 @@ pub fn field_here(values: &[u64], at: usize) -> Field
     field_at(values, e * 17)
 }
 
+// Its kind, of all its numbers the only one that is read: below 10 it has no type, and every number from 13 on is an array's.
+pub fn kind_here(values: &[u64], at: usize) -> u64
+    ensures { λ r. ⌜ r ≡ getD (now (values .entry)) (at / 16 * 17 + 1) 0 ⌝ }
+{
+    let e = at / 16;
+    if values.len() / 17 < e {
+        return 0;
+    }
+    number(values, e * 17 + 1)
+}
+
+// Its condition.
+pub fn cond_here(values: &[u64], at: usize) -> Cond
+    ensures { λ r. ⌜ r ≡ fieldHere (now (values .entry)) at .cond ⌝ }
+{
+    let e = at / 16;
+    if values.len() / 17 < e {
+        return cond_at(values, values.len());
+    }
+    cond_at(values, e * 17)
+}
+
 // ---- a declaration
 
 fn decl_desc_of(kind: u64, a: u64, b: u64, c: u64) -> DeclDesc
@@ -341,6 +373,16 @@ pub fn decl_here(rows: &[u64], i: usize) -> Decl
     decl_at(rows, i * 11)
 }
 
+// Its name.
+pub fn id_here(rows: &[u64], i: usize) -> Part
+    ensures { λ r. ⌜ r ≡ declHere (now (rows .entry)) i .id ⌝ }
+{
+    if rows.len() / 11 < i {
+        return part_at(rows, rows.len(), 1, 2);
+    }
+    part_at(rows, i * 11, 1, 2)
+}
+
 // The number of its fields.
 pub fn count_here(rows: &[u64], i: usize) -> usize
     ensures { λ r. ⌜ r ≡ countHere (now (rows .entry)) i ⌝ }
@@ -351,6 +393,40 @@ pub fn count_here(rows: &[u64], i: usize) -> usize
     place_at(rows, i * 11, 7)
 }
 
+// A packet or struct.
+pub fn is_frame(desc: DeclDesc) -> bool
+    ensures { λ r. ⌜ r ≡ isFrame desc ⌝ }
+{
+    match desc {
+        DeclDesc::Checksum { width: _ } => false,
+        DeclDesc::CustomField { width: _ } => false,
+        DeclDesc::Enum {
+            width: _,
+            open: _,
+            complete: _,
+        } => false,
+        DeclDesc::Packet { parent_id: _ } => true,
+        DeclDesc::Struct { parent_id: _ } => true,
+    }
+}
+
+// `parent_id` of a packet or struct.
+pub fn parent_id(desc: DeclDesc) -> MaybePart
+    ensures { λ r. ⌜ r ≡ parentId desc ⌝ }
+{
+    match desc {
+        DeclDesc::Checksum { width: _ } => MaybePart::None,
+        DeclDesc::CustomField { width: _ } => MaybePart::None,
+        DeclDesc::Enum {
+            width: _,
+            open: _,
+            complete: _,
+        } => MaybePart::None,
+        DeclDesc::Packet { parent_id } => parent_id,
+        DeclDesc::Struct { parent_id } => parent_id,
+    }
+}
+
 // ---- the look-up of a declaration
 
 // The index of the first of n declarations with a name.
@@ -359,8 +435,7 @@ pub fn find(rec: &[u8], rows: &[u64], n: usize, name: Part) -> Found
 {
     let mut i = 0;
     while i < n {
-        let d = decl_here(rows, i);
-        let id = d.id;
+        let id = id_here(rows, i);
         if names::same_name(rec, id, name) {
             return Found::At(i);
         }

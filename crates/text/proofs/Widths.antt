@@ -11,7 +11,7 @@ use Rattle.text.specs.Widths.{scalarTypeOf}
 use Rattle.text.specs.declared.ScalarType.{ScalarType}
 
 module _ (w : ℕ) where
-  fits : w ≤ 64 → scalarTypeOf w ≡ ScalarType.Bits (getCxxScalarType w)
+  pub fits : w ≤ 64 → scalarTypeOf w ≡ ScalarType.Bits (getCxxScalarType w)
   unfolding scalarTypeOf
   fits h = rw (le-ltb 64 w h, scalarTypeOf)
 

@@ -4,8 +4,8 @@ use Prim.Native.Nat.{ℕ, _+_, _≤_, _<_, _^_}
 use mathlib.Core.List.{List, _∷_}
 use mathlib.Core.Path.{_≡_, sym, ap, _∙_}
 use native.Mathlib.Omega.{arith}
-use Rattle.definitions.specs.Sizes.{Annotated}
-use Rattle.definitions.specs.Refusals.{staticBits, staticSum}
+use Rattle.definitions.specs.Sizes.{Annotated, staticWidth}
+use Rattle.definitions.specs.Refusals.{staticSum}
 use Rattle.definitions.specs.FieldParser.{trailingFrom}
 use Rattle.definitions.specs.declared.MaybeNumber.{MaybeNumber}
 use Rattle.definitions.specs.declared.Size.{Size}
@@ -67,13 +67,13 @@ module _ (s rows values fields : List ℕ) (i n : ℕ) where
   pub room-start : Fine tables i n → (k : ℕ) → k < n → 0 + staticSum (rest (k + 1)) ≤ 2147483647
   room-start fine k h = omega (arith, sum-fine s rows values fields i n fine (k + 1) (omega arith))
 
-  module _ (j t : ℕ) (room : t + staticSum (rest j) ≤ 2147483647) (h : j < n) {z : Size} (ez : z ≡ here j .fieldSize) {m : MaybeNumber} (em : m ≡ staticNumber z)
-      {bits : ℕ} (k : m ≡ MaybeNumber.Some bits) where
+  module _ (j t : ℕ) (room : t + staticSum (rest j) ≤ 2147483647) (h : j < n) {z : Size} (ez : z ≡ here j .fieldSize)
+      {m : MaybeNumber} (em : m ≡ staticNumber z) {bits : ℕ} (k : m ≡ MaybeNumber.Some bits) where
     sum-here : staticSum (rest j) ≡ bits + staticSum (rest (j + 1))
     unfolding staticSum
     sum-here =
         ap staticSum (rest-step s rows values fields i n j h)
-        ∙ ap (λ (z : Size). staticBits z + staticSum (rest (j + 1))) (sym ez ∙ is-static z (sym k ∙ em))
+        ∙ ap (λ (z : Size). staticWidth z + staticSum (rest (j + 1))) (sym ez ∙ is-static z (sym k ∙ em))
 
     pub room-here : t + bits < 2 ^ 64
     room-here = omega (arith, sum-here)

@@ -1,5 +1,5 @@
-// `parse_typedef_field` and `parse_payload_field_lite` of cxx.rs as values, with `get_trailing_size`: refusals 11 and 14. The field is number k of the n
-// that the declaration with the index i has from 64 i on, behind refusal 7, so that no size is over the limit.
+// `parse_typedef_field` and `parse_payload_field_lite` of cxx.rs as values, with `get_trailing_size`: refusal 14. The field is number k of the n that
+// the declaration with the index i has from 64 i on, on an octet boundary and behind refusal 7, so that no size is over the limit.
 
 use definitions::MaybeNumber;
 use definitions::Modifier;
@@ -34,7 +34,7 @@ fn field_size(
     rec: &[u8],
     rows: &[u64],
     values: &[u64],
-    fields: &[usize],
+    fields: &[u16],
     i: usize,
     n: usize,
     k: usize,
@@ -53,7 +53,7 @@ fn get_trailing_size(
     rec: &[u8],
     rows: &[u64],
     values: &[u64],
-    fields: &[usize],
+    fields: &[u16],
     i: usize,
     n: usize,
     k: usize,
@@ -78,6 +78,12 @@ fn get_trailing_size(
 
 // ---- a typedef of a type that is no enum
 
+// Its name, and that of its type.
+pub struct TypedefParts {
+    pub id: Part,
+    pub type_id: Part,
+}
+
 fn typedef_up_to(id: Part, type_id: Part, trailing_size: MaybeNumber) -> EmitAt
     ensures { λ r. ⌜ r ≡ typedefUpTo id «type_id» «trailing_size» ⌝ }
 {
@@ -100,22 +106,19 @@ pub fn parse_typedef_field(
     rec: &[u8],
     rows: &[u64],
     values: &[u64],
-    fields: &[usize],
+    fields: &[u16],
     i: usize,
     n: usize,
     k: usize,
-    shift: u64,
-    id: Part,
-    type_id: Part,
+    typedef: TypedefParts,
 ) -> EmitAt
     requires { ⌜ k < n ⌝ }
     requires { let t : Tables = tablesOf (now rec) (now rows) (now values) (now fields) in ⌜ Fine t i n ⌝ }
     ensures { λ r. let t : Tables = tablesOf (now (rec .entry)) (now (rows .entry)) (now (values .entry)) (now (fields .entry)) in
-        ⌜ r ≡ typedefAt shift id «type_id» (annotatedAt t i n k .fieldSize) (getTrailingSize (restAt t i n (k + 1))) ⌝ }
+        ⌜ r ≡ typedefAt (typedef .id) (typedef .«type_id») (getTrailingSize (restAt t i n (k + 1))) (annotatedAt t i n k .fieldSize) ⌝ }
 {
-    if shift != 0 {
-        return EmitAt::Refuses(Refusal::OctetBoundary);
-    }
+    let id = typedef.id;
+    let type_id = typedef.type_id;
     let size = field_size(rec, rows, values, fields, i, n, k);
     match size {
         Size::Static(_) => EmitAt::Appends(BlockAt::Nested { id, type_id }),
@@ -148,21 +151,17 @@ pub fn parse_payload_field_lite(
     rec: &[u8],
     rows: &[u64],
     values: &[u64],
-    fields: &[usize],
+    fields: &[u16],
     i: usize,
     n: usize,
     k: usize,
-    shift: u64,
     size_modifier: Modifier,
 ) -> EmitAt
     requires { ⌜ k < n ⌝ }
     requires { let t : Tables = tablesOf (now rec) (now rows) (now values) (now fields) in ⌜ Fine t i n ⌝ }
     ensures { λ r. let t : Tables = tablesOf (now (rec .entry)) (now (rows .entry)) (now (values .entry)) (now (fields .entry)) in
-        ⌜ r ≡ payloadAt shift «size_modifier» (hasPayloadSize (t .source) (fieldsOf t i n)) (getTrailingSize (restAt t i n (k + 1))) ⌝ }
+        ⌜ r ≡ payloadAt «size_modifier» (hasPayloadSize (t .source) (fieldsOf t i n)) (getTrailingSize (restAt t i n (k + 1))) ⌝ }
 {
-    if shift != 0 {
-        return EmitAt::Refuses(Refusal::OctetBoundary);
-    }
     if references::has_payload_size(rec, values, fields, i, n) {
         return EmitAt::Appends(BlockAt::SizedPayload(size_modifier));
     }

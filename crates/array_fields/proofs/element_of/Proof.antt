@@ -24,13 +24,13 @@ enum-told-2 : tie.Need-enum-told-2
 enum-told-2 c = search needs
 
 returns : tie.Need-returns
-returns c = search (element-scalar, element-typed, element-neither, needs)
+returns c = search (element-scalar, needs)
 
 returns-2 : tie.Need-returns-2
-returns-2 c = search (element-scalar, element-typed, element-neither, needs)
+returns-2 c = search (element-typed, needs)
 
 returns-3 : tie.Need-returns-3
-returns-3 c = search (element-scalar, element-typed, element-neither, needs)
+returns-3 c = search (element-neither, needs)
 
 pub element-of-spec : {M : Type 1} → statement M
 element-of-spec =

@@ -7,16 +7,19 @@ use Rattle.conditions.proofs.conditions.Statement.{statement}
 use Rattle.conditions.proofs.conditions.Tie as tie
 
 abbrev Inv-loop : tie.InvT-loop
-Inv-loop values fields i n starts₀ ends₀ m₀ k₀ starts ends m k = Left values fields (i * 64) n starts₀ ends₀ starts ends m k
+Inv-loop values fields i n conds₀ m₀ k₀ conds m k = Left values fields (i * 64) n conds₀ conds m k
 
 abbrev μ-loop : tie.MeasureT-loop
-μ-loop values fields i n starts₀ ends₀ m₀ k₀ starts ends m k = n - k
+μ-loop values fields i n conds₀ m₀ k₀ conds m k = n - k
 
 loop-holds : tie.Need-loop-holds Inv-loop μ-loop
 loop-holds c = search (left-start, needs)
 
-field-in-requires : tie.Need-field-in-requires Inv-loop μ-loop
-field-in-requires c κs = search needs
+place-in-requires : tie.Need-place-in-requires Inv-loop μ-loop
+place-in-requires c κs = search needs
+
+cond-here-requires : tie.Need-cond-here-requires Inv-loop μ-loop
+cond-here-requires c κs = search needs
 
 gather-requires : tie.Need-gather-requires Inv-loop μ-loop
 gather-requires c κs = search needs
@@ -33,9 +36,6 @@ loop-again c = search (left-turn, needs)
 same-length : tie.Need-same-length Inv-loop μ-loop
 same-length c = search needs
 
-same-length-2 : tie.Need-same-length-2 Inv-loop μ-loop
-same-length-2 c = search needs
-
 returns : tie.Need-returns Inv-loop μ-loop
 returns c = search (left-end, needs)
 
@@ -46,11 +46,11 @@ conditions-spec =
     Inv-loop
     μ-loop
     loop-holds
-    field-in-requires
+    place-in-requires
+    cond-here-requires
     gather-requires
     add-k
     loop-less
     loop-again
     same-length
-    same-length-2
     returns)

@@ -2,26 +2,39 @@
 -- Assumes nothing.
 use Prim.Native.Nat.{_-_, _≤_}
 use mathlib.Core.Path.{_≡_}
-use Rattle.conditions.specs.IfNames.{namesFrom, isCondIn}
-use Rattle.conditions.proofs.Looks.{look-start, look-end, look-found, look-turn}
+use lib.ListN.{length, drop}
+use Rattle.conditions.specs.IfNames.{namesIn, isCondIn}
+use Rattle.conditions.proofs.Looks.{look-end, look-found, look-turn}
 use borrow.Author.Needs.{needs}
 use Rattle.conditions.proofs.is_cond_for.Statement.{statement}
 use Rattle.conditions.proofs.is_cond_for.Tie as tie
 
 abbrev Inv-loop : tie.InvT-loop
-Inv-loop rec starts ends m id k₀ k = (k ≤ m) × (isCondIn rec (namesFrom starts ends k (m - k)) id ≡ isCondIn rec (namesFrom starts ends 0 m) id)
+Inv-loop rec conds id k₀ k = (k ≤ length conds) × (isCondIn rec (namesIn (drop k conds)) id ≡ isCondIn rec (namesIn conds) id)
 
 abbrev μ-loop : tie.MeasureT-loop
-μ-loop rec starts ends m id k₀ k = m - k
+μ-loop rec conds id k₀ k = length conds - k
 
 loop-holds : tie.Need-loop-holds Inv-loop μ-loop
-loop-holds c = (search needs, search (look-start, needs))
+loop-holds c = search needs
 
-get-requires : tie.Need-get-requires Inv-loop μ-loop
-get-requires c κs = search needs
+add-loop : tie.Need-add-loop Inv-loop μ-loop
+add-loop c = search needs
 
-get-requires-2 : tie.Need-get-requires-2 Inv-loop μ-loop
-get-requires-2 c κs = search needs
+mul-start : tie.Need-mul-start Inv-loop μ-loop
+mul-start c = search needs
+
+shared-slice-read-start : tie.Need-shared-slice-read-start Inv-loop μ-loop
+shared-slice-read-start c = search needs
+
+add-end : tie.Need-add-end Inv-loop μ-loop
+add-end c = search needs
+
+mul-end : tie.Need-mul-end Inv-loop μ-loop
+mul-end c = search needs
+
+shared-slice-read-end : tie.Need-shared-slice-read-end Inv-loop μ-loop
+shared-slice-read-end c = search needs
 
 same-name-requires : tie.Need-same-name-requires Inv-loop μ-loop
 same-name-requires c κs = search needs
@@ -48,8 +61,12 @@ is-cond-for-spec =
     Inv-loop
     μ-loop
     loop-holds
-    get-requires
-    get-requires-2
+    add-loop
+    mul-start
+    shared-slice-read-start
+    add-end
+    mul-end
+    shared-slice-read-end
     same-name-requires
     returns
     add-k

@@ -11,6 +11,9 @@ field-in-requires c κs = search needs
 enum-told : tie.Need-enum-told
 enum-told c = search needs
 
+other-of-requires : tie.Need-other-of-requires
+other-of-requires c κs = search needs
+
 parse-other-requires : tie.Need-parse-other-requires
 parse-other-requires c κs = search needs
 
@@ -32,6 +35,7 @@ parse-unchecked-spec =
     (tie.spec
     field-in-requires
     enum-told
+    other-of-requires
     parse-other-requires
     enum-known-cond
     parse-optional-field-requires

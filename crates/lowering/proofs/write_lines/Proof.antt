@@ -1,69 +1,26 @@
--- `lowering::write_lines` meets its contract, by the laws of Passes.
+-- `lowering::write_lines` meets its contract, by the laws of Passes and those of the plan.
 -- Assumes nothing.
-use Rattle.lowering.proofs.Passes.{pass-refused, pass-no-room, pass-written}
+use Rattle.planner.proofs.Stands.{is-plan}
+use Rattle.lowering.proofs.Passes.{plan-answers, none-answers}
 use borrow.Author.Needs.{needs}
 use Rattle.lowering.proofs.write_lines.Statement.{statement}
 use Rattle.lowering.proofs.write_lines.Tie as tie
 
-slice-aggregate-lower-target : tie.Need-slice-aggregate-lower-target
-slice-aggregate-lower-target c = search needs
-
-lower-target-requires : tie.Need-lower-target-requires
-lower-target-requires c κs = search needs
-
-enum-known-verdict : tie.Need-enum-known-verdict
-enum-known-verdict c = search needs
-
-turned-back-requires : tie.Need-turned-back-requires
-turned-back-requires c κs = search needs
-
-enum-told : tie.Need-enum-told
-enum-told c = search needs
-
-turned-back-requires-2 : tie.Need-turned-back-requires-2
-turned-back-requires-2 c κs = search needs
-
 returns : tie.Need-returns
-returns c =
-    pass-no-room _ _ _ _ _ _
-    (c .before .before .before .before .before .before .lower-target .ensures)
-    (c .before .before .before .enum-told .given .1)
-    (c .before .if1 .taken)
-    (c .turned-back2 .ensures)
+returns c = search (none-answers, needs)
 
-lower-target-requires-2 : tie.Need-lower-target-requires-2
-lower-target-requires-2 c κs = search needs
+plan-target-requires : tie.Need-plan-target-requires
+plan-target-requires c κs = search needs
 
-returns-2 : tie.Need-returns-2
-returns-2 c =
-    pass-refused _ _ _ _ _ _
-    (c .before .before .before .before .before .lower-target .ensures)
-    (c .before .before .verdict .given .1)
-    (c .turned-back .ensures)
+write-plan-requires : tie.Need-write-plan-requires
+write-plan-requires c κs =
+    (search needs, is-plan (c .before .before .before .before .before .before .before .before .pre .fine) (c .before .plan-target .ensures) .sound)
 
 same-length : tie.Need-same-length
 same-length c = search needs
 
-returns-3 : tie.Need-returns-3
-returns-3 c =
-    pass-written _ _ _ _ _ _
-    (c .before .before .before .before .before .before .before .before .before .lower-target .ensures)
-    (c .before .before .before .before .before .before .enum-told .given .1)
-    (c .before .before .before .before .if1 .left) _ _
-    (c .before .before .lower-target2 .ensures)
+returns-2 : tie.Need-returns-2
+returns-2 c = search (plan-answers, needs)
 
 pub write-lines-spec : {M : Type 1} → statement M
-write-lines-spec =
-    tie.close
-    (tie.spec
-    slice-aggregate-lower-target
-    lower-target-requires
-    enum-known-verdict
-    turned-back-requires
-    enum-told
-    turned-back-requires-2
-    returns
-    lower-target-requires-2
-    returns-2
-    same-length
-    returns-3)
+write-lines-spec = tie.close (tie.spec returns plan-target-requires write-plan-requires same-length returns-2)

@@ -4,7 +4,7 @@ use Rattle.definitions.specs.Bytes.{same}
 use lib.ListN.{length, drop}
 use mathlib.Core.Path.{_≡_}
 use Prim.Native.Nat.{_≤_, _-_}
-use Rattle.names.proofs.Parts.{same-end, same-short, same-other, same-turn}
+use Rattle.names.proofs.Parts.{same-lengths, same-end, same-other, same-turn}
 use borrow.Author.Needs.{needs}
 use Rattle.names.proofs.same_bytes.Statement.{statement}
 use Rattle.names.proofs.same_bytes.Tie as tie
@@ -15,11 +15,11 @@ Inv-loop a b i₀ i = (i ≤ length a) × (same (drop i a) (drop i b) ≡ same a
 abbrev μ-loop : tie.MeasureT-loop
 μ-loop a b i₀ i = length a - i
 
+returns : tie.Need-returns Inv-loop μ-loop
+returns c = search (same-lengths, needs)
+
 loop-holds : tie.Need-loop-holds Inv-loop μ-loop
 loop-holds c = search needs
-
-returns : tie.Need-returns Inv-loop μ-loop
-returns c = search (same-short, same-other, needs)
 
 shared-slice-read-if2 : tie.Need-shared-slice-read-if2 Inv-loop μ-loop
 shared-slice-read-if2 c = search needs
@@ -28,7 +28,7 @@ shared-slice-read-if2-2 : tie.Need-shared-slice-read-if2-2 Inv-loop μ-loop
 shared-slice-read-if2-2 c = search needs
 
 returns-2 : tie.Need-returns-2 Inv-loop μ-loop
-returns-2 c = search (same-short, same-other, needs)
+returns-2 c = search (same-other, needs)
 
 add-i : tie.Need-add-i Inv-loop μ-loop
 add-i c = search needs
@@ -48,8 +48,8 @@ same-bytes-spec =
     (tie.spec
     Inv-loop
     μ-loop
-    loop-holds
     returns
+    loop-holds
     shared-slice-read-if2
     shared-slice-read-if2-2
     returns-2

@@ -1,24 +1,35 @@
--- `parser::done` meets its contract, by the laws of proofs/Drives.
+-- `parser::done` meets its contract, by the laws of proofs/Others.
 -- Assumes nothing.
-use Rattle.parser.proofs.Drives.{done-passes, done-refuses}
+use Rattle.parser.proofs.Others.{done-refused, done-open, done-passes}
 use borrow.Author.Needs.{needs}
 use Rattle.parser.proofs.done.Statement.{statement}
 use Rattle.parser.proofs.done.Tie as tie
 
+is-refused-requires : tie.Need-is-refused-requires
+is-refused-requires c κs = search needs
+
+returns : tie.Need-returns
+returns c = search (done-refused, needs)
+
 check-code-requires : tie.Need-check-code-requires
 check-code-requires c κs = search needs
 
-enum-told : tie.Need-enum-told
-enum-told c = search needs
-
-enum-known-verdict : tie.Need-enum-known-verdict
-enum-known-verdict c = search needs
-
-returns : tie.Need-returns
-returns c = done-passes _ _ _ (c .before .before .check-code .ensures) (search needs)
+is-refused-requires-2 : tie.Need-is-refused-requires-2
+is-refused-requires-2 c κs = search needs
 
 returns-2 : tie.Need-returns-2
-returns-2 c = done-refuses _ _ _ (c .before .before .before .check-code .ensures) _ (search needs)
+returns-2 c = search (done-open, needs)
+
+returns-3 : tie.Need-returns-3
+returns-3 c = search (done-passes, needs)
 
 pub done-spec : {M : Type 1} → statement M
-done-spec = tie.close (tie.spec check-code-requires enum-told enum-known-verdict returns returns-2)
+done-spec =
+    tie.close
+    (tie.spec
+    is-refused-requires
+    returns
+    check-code-requires
+    is-refused-requires-2
+    returns-2
+    returns-3)

@@ -2,6 +2,7 @@
 -- Assumes nothing.
 use lib.ListN.{length}
 use Prim.Native.Nat.{_-_}
+use Rattle.places.proofs.Ends.{place-fits}
 use Rattle.places.proofs.Filling.{Left, left-start, left-out, left-end, left-wrong, left-turn}
 use borrow.Author.Needs.{needs}
 use Rattle.places.proofs.fill_fields.Statement.{statement}
@@ -62,7 +63,7 @@ add-put : tie.Need-add-put Inv-loop μ-loop
 add-put c = search needs
 
 put-requires : tie.Need-put-requires Inv-loop μ-loop
-put-requires c κs = search needs
+put-requires c κs = search (place-fits, needs)
 
 add-n : tie.Need-add-n Inv-loop μ-loop
 add-n c = search needs

@@ -1,7 +1,7 @@
--- `readers::decl_at` meets its contract, by the laws of Steps.
+-- `readers::decl_at` meets its contract, by the law of a chain of keys (Steps).
 -- Assumes nothing.
-use Rattle.definitions.specs.Record.{declAt}
-use Rattle.names.proofs.Steps.{via}
+use Rattle.definitions.specs.Record.{declAt, packetAt, structAt}
+use Rattle.names.proofs.Steps.{chain}
 use borrow.Author.Needs.{needs}
 use Rattle.readers.proofs.decl_at.Statement.{statement}
 use Rattle.readers.proofs.decl_at.Tie as tie
@@ -15,12 +15,12 @@ key-at-requires c κs = search needs
 enum-known-p : tie.Need-enum-known-p
 enum-known-p c = search needs
 
-packet-at-requires : tie.Need-packet-at-requires
-packet-at-requires c κs = search needs
+parented-at-requires : tie.Need-parented-at-requires
+parented-at-requires c κs = search needs
 
 returns : tie.Need-returns
-unfolding declAt
-returns c = search (via, needs) depth 12
+unfolding declAt packetAt
+returns c = search (chain, needs) depth 12
 
 enum-told : tie.Need-enum-told
 enum-told c = search needs
@@ -34,12 +34,12 @@ key-at-requires-2 c κs = search needs
 enum-known-p-2 : tie.Need-enum-known-p-2
 enum-known-p-2 c = search needs
 
-struct-at-requires : tie.Need-struct-at-requires
-struct-at-requires c κs = search needs
+parented-at-requires-2 : tie.Need-parented-at-requires-2
+parented-at-requires-2 c κs = search needs
 
 returns-2 : tie.Need-returns-2
-unfolding declAt
-returns-2 c = search (via, needs) depth 12
+unfolding declAt structAt
+returns-2 c = search (chain, needs) depth 12
 
 enum-told-2 : tie.Need-enum-told-2
 enum-told-2 c = search needs
@@ -58,7 +58,7 @@ enum-at-requires c κs = search needs
 
 returns-3 : tie.Need-returns-3
 unfolding declAt
-returns-3 c = search (via, needs) depth 12
+returns-3 c = search (chain, needs) depth 12
 
 enum-told-3 : tie.Need-enum-told-3
 enum-told-3 c = search needs
@@ -77,7 +77,7 @@ checksum-decl-at-requires c κs = search needs
 
 returns-4 : tie.Need-returns-4
 unfolding declAt
-returns-4 c = search (via, needs) depth 12
+returns-4 c = search (chain, needs) depth 12
 
 enum-told-4 : tie.Need-enum-told-4
 enum-told-4 c = search needs
@@ -96,14 +96,14 @@ custom-at-requires c κs = search needs
 
 returns-5 : tie.Need-returns-5
 unfolding declAt
-returns-5 c = search (via, needs) depth 12
+returns-5 c = search (chain, needs) depth 12
 
 enum-told-5 : tie.Need-enum-told-5
 enum-told-5 c = search needs
 
 returns-6 : tie.Need-returns-6
 unfolding declAt
-returns-6 c = search (via, needs) depth 12
+returns-6 c = search (chain, needs) depth 12
 
 pub decl-at-spec : {M : Type 1} → statement M
 decl-at-spec =
@@ -112,13 +112,13 @@ decl-at-spec =
     slice-aggregate-key-at
     key-at-requires
     enum-known-p
-    packet-at-requires
+    parented-at-requires
     returns
     enum-told
     slice-aggregate-key-at-2
     key-at-requires-2
     enum-known-p-2
-    struct-at-requires
+    parented-at-requires-2
     returns-2
     enum-told-2
     slice-aggregate-key-at-3

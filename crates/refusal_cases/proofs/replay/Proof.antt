@@ -1,6 +1,5 @@
--- `refusal_cases::replay` meets its contract.
+-- `refusal_cases::replay` is safe and ends: the measure is the number of turns that are left.
 -- Assumes nothing.
-use Prim.Native.Nat.{_-_}
 use mathlib.Core.Path.{_≡_}
 use lib.ListN.{length}
 use borrow.Author.Needs.{needs}
@@ -8,19 +7,37 @@ use Rattle.refusal_cases.proofs.replay.Statement.{statement}
 use Rattle.refusal_cases.proofs.replay.Tie as tie
 
 abbrev Inv-loop : tie.InvT-loop
-Inv-loop buf₀ t₀ turns₀ buf t turns = length buf ≡ length buf₀
+Inv-loop window₀ t₀ at₀ end₀ turns₀ t10 window t at end turns = length window ≡ length window₀
 
 abbrev μ-loop : tie.MeasureT-loop
-μ-loop buf₀ t₀ turns₀ buf t turns = 1000000 - turns
+μ-loop window₀ t₀ at₀ end₀ turns₀ t10 window t at end turns = turns
 
 loop-holds : tie.Need-loop-holds Inv-loop μ-loop
 loop-holds c = search needs
+
+sub-turns : tie.Need-sub-turns Inv-loop μ-loop
+sub-turns c = search needs
 
 next-case-requires : tie.Need-next-case-requires Inv-loop μ-loop
 next-case-requires c κs = search needs
 
 enum-known-answer : tie.Need-enum-known-answer Inv-loop μ-loop
 enum-known-answer c = search needs
+
+part-requires : tie.Need-part-requires Inv-loop μ-loop
+part-requires c κs = search needs
+
+judge-requires : tie.Need-judge-requires Inv-loop μ-loop
+judge-requires c κs = search needs
+
+tallied-requires : tie.Need-tallied-requires Inv-loop μ-loop
+tallied-requires c κs = search needs
+
+loop-less : tie.Need-loop-less Inv-loop μ-loop
+loop-less c = search needs
+
+loop-again : tie.Need-loop-again Inv-loop μ-loop
+loop-again c = search needs
 
 enum-told : tie.Need-enum-told Inv-loop μ-loop
 enum-told c = search needs
@@ -31,23 +48,26 @@ same-length c = search needs
 returns : tie.Need-returns Inv-loop μ-loop
 returns c = search needs
 
-tallied-requires : tie.Need-tallied-requires Inv-loop μ-loop
-tallied-requires c κs = search needs
+enum-told-2 : tie.Need-enum-told-2 Inv-loop μ-loop
+enum-told-2 c = search needs
 
-add-turns : tie.Need-add-turns Inv-loop μ-loop
-add-turns c = search needs
+slice-aggregate-print-number : tie.Need-slice-aggregate-print-number Inv-loop μ-loop
+slice-aggregate-print-number c = search needs
 
-loop-less : tie.Need-loop-less Inv-loop μ-loop
-loop-less c = search needs
-
-loop-again : tie.Need-loop-again Inv-loop μ-loop
-loop-again c = search needs
+print-number-requires : tie.Need-print-number-requires Inv-loop μ-loop
+print-number-requires c κs = search needs
 
 same-length-2 : tie.Need-same-length-2 Inv-loop μ-loop
 same-length-2 c = search needs
 
 returns-2 : tie.Need-returns-2 Inv-loop μ-loop
 returns-2 c = search needs
+
+same-length-3 : tie.Need-same-length-3 Inv-loop μ-loop
+same-length-3 c = search needs
+
+returns-3 : tie.Need-returns-3 Inv-loop μ-loop
+returns-3 c = search needs
 
 pub replay-spec : {M : Type 1} → statement M
 replay-spec =
@@ -56,14 +76,21 @@ replay-spec =
     Inv-loop
     μ-loop
     loop-holds
+    sub-turns
     next-case-requires
     enum-known-answer
+    part-requires
+    judge-requires
+    tallied-requires
+    loop-less
+    loop-again
     enum-told
     same-length
     returns
-    tallied-requires
-    add-turns
-    loop-less
-    loop-again
+    enum-told-2
+    slice-aggregate-print-number
+    print-number-requires
     same-length-2
-    returns-2)
+    returns-2
+    same-length-3
+    returns-3)

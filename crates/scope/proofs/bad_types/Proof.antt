@@ -27,11 +27,8 @@ add-get c = search needs
 get-requires : tie.Need-get-requires Inv-loop μ-loop
 get-requires c κs = search needs
 
-field-here-requires : tie.Need-field-here-requires Inv-loop μ-loop
-field-here-requires c κs = search needs
-
-bad-type-requires : tie.Need-bad-type-requires Inv-loop μ-loop
-bad-type-requires c κs = search needs
+bad-field-type-requires : tie.Need-bad-field-type-requires Inv-loop μ-loop
+bad-field-type-requires c κs = search needs
 
 returns : tie.Need-returns Inv-loop μ-loop
 returns c = search (type-found, needs)
@@ -57,8 +54,7 @@ bad-types-spec =
     loop-holds
     add-get
     get-requires
-    field-here-requires
-    bad-type-requires
+    bad-field-type-requires
     returns
     add-k
     loop-less

@@ -20,8 +20,8 @@ abbrev μ-loop : tie.MeasureT-loop
 loop-holds : tie.Need-loop-holds Inv-loop μ-loop
 loop-holds c = search (twice-start, needs)
 
-decl-here-requires : tie.Need-decl-here-requires Inv-loop μ-loop
-decl-here-requires c κs = search needs
+id-here-requires : tie.Need-id-here-requires Inv-loop μ-loop
+id-here-requires c κs = search needs
 
 add-is-named : tie.Need-add-is-named Inv-loop μ-loop
 add-is-named c = search needs
@@ -51,7 +51,7 @@ duplicate-name-spec =
     Inv-loop
     μ-loop
     loop-holds
-    decl-here-requires
+    id-here-requires
     add-is-named
     is-named-requires
     returns

@@ -59,8 +59,8 @@ enum-known-desc-3 c = search needs
 enum-of-requires : tie.Need-enum-of-requires
 enum-of-requires c κs = search needs
 
-ragged-type-requires : tie.Need-ragged-type-requires
-ragged-type-requires c κs = search needs
+ragged-enum-requires : tie.Need-ragged-enum-requires
+ragged-enum-requires c κs = search needs
 
 both-requires-2 : tie.Need-both-requires-2
 both-requires-2 c κs = search needs
@@ -129,7 +129,7 @@ ragged-desc-spec =
     enum-told-11
     enum-known-desc-3
     enum-of-requires
-    ragged-type-requires
+    ragged-enum-requires
     both-requires-2
     returns
     returns-2

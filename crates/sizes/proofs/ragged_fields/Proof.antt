@@ -21,11 +21,11 @@ abbrev μ-loop : tie.MeasureT-loop
 loop-holds : tie.Need-loop-holds Inv-loop μ-loop
 loop-holds c = (search needs, search (fields-ragged, needs))
 
-field-in-requires : tie.Need-field-in-requires Inv-loop μ-loop
-field-in-requires c κs = search needs
+place-in-requires : tie.Need-place-in-requires Inv-loop μ-loop
+place-in-requires c κs = search needs
 
-ragged-field-requires : tie.Need-ragged-field-requires Inv-loop μ-loop
-ragged-field-requires c κs = search needs
+ragged-here-requires : tie.Need-ragged-here-requires Inv-loop μ-loop
+ragged-here-requires c κs = search needs
 
 returns : tie.Need-returns Inv-loop μ-loop
 returns c = search (fields-whole, fields-found, needs)
@@ -49,8 +49,8 @@ ragged-fields-spec =
     Inv-loop
     μ-loop
     loop-holds
-    field-in-requires
-    ragged-field-requires
+    place-in-requires
+    ragged-here-requires
     returns
     add-k
     loop-less

@@ -5,11 +5,14 @@ use borrow.Author.Needs.{needs}
 use Rattle.tables.proofs.get.Statement.{statement}
 use Rattle.tables.proofs.get.Tie as tie
 
-mul-result : tie.Need-mul-result
-mul-result c = search needs
+mul-place-of : tie.Need-mul-place-of
+mul-place-of c = search needs
 
-shared-slice-read-result : tie.Need-shared-slice-read-result
-shared-slice-read-result c = search needs
+shared-slice-read-place-of : tie.Need-shared-slice-read-place-of
+shared-slice-read-place-of c = search needs
+
+place-of-requires : tie.Need-place-of-requires
+place-of-requires c κs = search needs
 
 returns : tie.Need-returns
 returns c = search needs
@@ -18,4 +21,6 @@ returns-2 : tie.Need-returns-2
 returns-2 c = search (get-out, needs)
 
 pub get-spec : {M : Type 1} → statement M
-get-spec = tie.close (tie.spec mul-result shared-slice-read-result returns returns-2)
+get-spec =
+    tie.close
+    (tie.spec mul-place-of shared-slice-read-place-of place-of-requires returns returns-2)

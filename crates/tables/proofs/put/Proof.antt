@@ -5,6 +5,9 @@ use borrow.Author.Needs.{needs}
 use Rattle.tables.proofs.put.Statement.{statement}
 use Rattle.tables.proofs.put.Tie as tie
 
+cast-t : tie.Need-cast-t
+cast-t c = search needs
+
 mul-t : tie.Need-mul-t
 mul-t c = search needs
 
@@ -21,4 +24,4 @@ returns-2 : tie.Need-returns-2
 returns-2 c = search (put-out, needs)
 
 pub put-spec : {M : Type 1} → statement M
-put-spec = tie.close (tie.spec mul-t slice-write-t same-length returns returns-2)
+put-spec = tie.close (tie.spec cast-t mul-t slice-write-t same-length returns returns-2)

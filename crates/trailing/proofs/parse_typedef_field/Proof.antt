@@ -1,12 +1,9 @@
 -- `trailing::parse_typedef_field` meets its contract.
 -- Assumes nothing.
-use Rattle.trailing.proofs.Arms.{typedef-off, typedef-by, typedef-unknown}
+use Rattle.trailing.proofs.Arms.{typedef-by, typedef-unknown}
 use borrow.Author.Needs.{needs}
 use Rattle.trailing.proofs.parse_typedef_field.Statement.{statement}
 use Rattle.trailing.proofs.parse_typedef_field.Tie as tie
-
-returns : tie.Need-returns
-returns c = search (typedef-off, needs)
 
 field-size-requires : tie.Need-field-size-requires
 field-size-requires c κs = search needs
@@ -26,26 +23,25 @@ get-trailing-size-requires c κs = search needs
 typedef-up-to-requires : tie.Need-typedef-up-to-requires
 typedef-up-to-requires c κs = search needs
 
+returns : tie.Need-returns
+returns c = search (typedef-by, needs)
+
 returns-2 : tie.Need-returns-2
 returns-2 c = search (typedef-by, needs)
 
 returns-3 : tie.Need-returns-3
-returns-3 c = search (typedef-by, needs)
-
-returns-4 : tie.Need-returns-4
-returns-4 c = search (typedef-unknown, needs)
+returns-3 c = search (typedef-unknown, needs)
 
 pub parse-typedef-field-spec : {M : Type 1} → statement M
 parse-typedef-field-spec =
     tie.close
     (tie.spec
-    returns
     field-size-requires
     enum-told
     enum-told-2
     enum-told-3
     get-trailing-size-requires
     typedef-up-to-requires
+    returns
     returns-2
-    returns-3
-    returns-4)
+    returns-3)

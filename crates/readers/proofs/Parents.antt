@@ -1,0 +1,14 @@
+-- The declaration of a kind with a parent.
+-- Assumes nothing.
+use Prim.Native.Nat.{ℕ}
+use mathlib.Core.Path.{_≡_, sym, ap, _∙_}
+use Rattle.definitions.specs.Record.{declIs}
+use Rattle.definitions.specs.declared.DeclRead.{DeclRead}
+use Rattle.definitions.specs.declared.MaybePart.{MaybePart}
+use Rattle.definitions.specs.declared.Part.{Part}
+use Rattle.readers.specs.Heads.{parented}
+use Rattle.readers.specs.declared.Parented.{Parented}
+
+pub parented-is : {kind k : Parented} (at : ℕ) (id : Part) (parent : MaybePart) (p : ℕ) {d : DeclRead}
+    → kind ≡ k → d ≡ declIs at id (parented k parent) p → d ≡ declIs at id (parented kind parent) p
+parented-is at id parent p h e = e ∙ ap (λ (k : Parented). declIs at id (parented k parent) p) (sym h)
