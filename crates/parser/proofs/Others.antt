@@ -136,9 +136,6 @@ module _ (o : Options) (s : Text) (t : State) (len : ℕ) (must : Bool) (e : Emi
 
 -- ---- `done`
 
-pub refused-as : {v w : Verdict} {b : Bool} → v ≡ w → b ≡ isRefused w → b ≡ isRefused v
-refused-as e h = h ∙ ap isRefused (sym e)
-
 refused-is : (v : Verdict) (p q : ℕ) → isRefused v ≡ true → _≡_ {A = Lowered} (record { verdict = v; at = p }) (answerBy v p q)
 refused-is Verdict.Pass p q e = let z : _≡_ {A = ℕ} 0 1 = cc in absurd (omega arith)
 refused-is (Verdict.Refuse why) p q e = refl
