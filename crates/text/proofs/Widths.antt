@@ -1,34 +1,45 @@
--- Masks and backing types, by the code's tests of a width.
+-- Masks, by the code's test of a width; backing types, by a table of 65 entries.
 -- Assumes nothing.
 use mathlib.Core.Path.{_≡_, sym, ap, _∙_}
+use mathlib.Core.Bool.{Bool}
+use mathlib.Core.List.{List}
 use Prim.Native.Nat.{ℕ, _*_, _-_, _%_, _≤_, _<_, _^_, min}
 use native.Mathlib.Nat.{one-mul, mod-eq-of-lt}
+use lib.Dec.{T, eqb, ltb, eqb→eq, ltb→lt}
+use lib.ListN.{length, getD}
 use lib.Pow.{pow-pos, pow-lt}
 use native.Mathlib.Omega.{arith}
-use borrow.Author.Tests.{lt-ltb, le-ltb, le-leb, lt-leb}
+use mir.Syntax.{w64}
+use mir.Val.{Fits}
+use borrow.Author.Tests.{lt-ltb, le-ltb}
 use Rattle.definitions.specs.Blocks.{mask, getCxxScalarType}
+use Rattle.text.proofs.Table.{every, entry}
 use Rattle.text.specs.Widths.{scalarTypeOf}
 use Rattle.text.specs.declared.ScalarType.{ScalarType}
+
+-- the entry of a width is the rule's value
+abbrev agrees : ℕ → ℕ → Bool
+agrees w bits = eqb bits (getCxxScalarType w)
+
+-- the entry of a width is a number of 64 bits
+abbrev small : ℕ → ℕ → Bool
+small w bits = ltb bits (2 ^ 64)
 
 module _ (w : ℕ) where
   pub fits : w ≤ 64 → scalarTypeOf w ≡ ScalarType.Bits (getCxxScalarType w)
   unfolding scalarTypeOf
   fits h = rw (le-ltb 64 w h, scalarTypeOf)
 
-  pub type-8 : w ≤ 8 → ScalarType.Bits 8 ≡ scalarTypeOf w
-  type-8 h = sym (fits (omega arith) ∙ (rw (le-leb w 8 h)))
+  -- a table of 65 entries
+  module _ (types : List ℕ) (all : length types ≡ 65) (h : w ≤ 64) where
+    listed : T (every agrees 0 types) → getD types w 0 ≡ getCxxScalarType w
+    listed t = eqb→eq (getD types w 0) (getCxxScalarType w) (entry agrees types t w (omega (arith, all)))
 
-  pub type-16 : 8 < w → w ≤ 16 → ScalarType.Bits 16 ≡ scalarTypeOf w
-  type-16 a h = sym (fits (omega arith) ∙ (rw (lt-leb w 8 a, le-leb w 16 h)))
+    pub from-table : T (every agrees 0 types) → ScalarType.Bits (getD types w 0) ≡ scalarTypeOf w
+    from-table t = ap ScalarType.Bits (listed t) ∙ sym (fits h)
 
-  pub type-32 : 16 < w → w ≤ 32 → ScalarType.Bits 32 ≡ scalarTypeOf w
-  type-32 a h = let b : 8 < w = omega arith in sym (fits (omega arith) ∙ (rw (lt-leb w 8 b, lt-leb w 16 a, le-leb w 32 h)))
-
-  pub type-64 : 32 < w → w ≤ 64 → ScalarType.Bits 64 ≡ scalarTypeOf w
-  type-64 a h =
-      let b : 8 < w = omega arith in
-      let d : 16 < w = omega arith in
-      sym (fits h ∙ (rw (lt-leb w 8 b, lt-leb w 16 d, lt-leb w 32 a)))
+    pub entry-fits : T (every small 0 types) → Fits w64 (getD types w 0)
+    entry-fits t = record { fits = ltb→lt (getD types w 0) (2 ^ 64) (entry small types t w (omega (arith, all))) }
 
   pub too-wide : 64 < w → ScalarType.TooWide ≡ scalarTypeOf w
   unfolding scalarTypeOf

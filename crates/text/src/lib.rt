@@ -1,6 +1,6 @@
-// Bytes and numbers written into a lent buffer (document 01, module 1): fixed C++ pieces, names, decimal and hexadecimal numbers; `mask` and
-// `get_cxx_scalar_type`. Every writer says by `Put` which place comes next and what the buffer holds, for every buffer and every place: the
-// pass that only finds the length runs on an empty buffer.
+// Bytes and numbers written into a lent buffer (document 01, module 1): fixed C++ pieces, names, decimal and hexadecimal numbers; `mask`, and
+// `get_cxx_scalar_type` by a table (document 02, Card 4). Every writer says by `Put` which place comes next and what the buffer holds, for every
+// buffer and every place: the pass that only finds the length runs on an empty buffer.
 ghost use mathlib.Core.Path.{_≡_};
 ghost use mathlib.Core.List.{_∷_, [], _++_};
 ghost use Prim.Native.Nat.{_-_, _≤_, _<_, min};
@@ -124,21 +124,81 @@ pub fn mask(width: u64) -> u64
     (1 << width) - 1
 }
 
+// The bits of the backing type of each width from 0 to 64, read by index. Behind an entry: its width, at the borders.
+const SCALAR_TYPES: [u8; 65] = [
+    8, // 0
+    8,
+    8,
+    8,
+    8,
+    8,
+    8,
+    8,
+    8, // 8
+    16, // 9
+    16,
+    16,
+    16,
+    16,
+    16,
+    16,
+    16, // 16
+    32, // 17
+    32,
+    32,
+    32,
+    32,
+    32,
+    32,
+    32,
+    32,
+    32,
+    32,
+    32,
+    32,
+    32,
+    32,
+    32, // 32
+    64, // 33
+    64,
+    64,
+    64,
+    64,
+    64,
+    64,
+    64,
+    64,
+    64,
+    64,
+    64,
+    64,
+    64,
+    64,
+    64,
+    64,
+    64,
+    64,
+    64,
+    64,
+    64,
+    64,
+    64,
+    64,
+    64,
+    64,
+    64,
+    64,
+    64,
+    64,
+    64, // 64
+];
+
 // `get_cxx_scalar_type`
 pub fn get_cxx_scalar_type(width: u64) -> ScalarType
     ensures { λ r. ⌜ r ≡ scalarTypeOf width ⌝ }
 {
-    if width <= 8 {
-        return ScalarType::Bits(8);
+    if 64 < width {
+        return ScalarType::TooWide;
     }
-    if width <= 16 {
-        return ScalarType::Bits(16);
-    }
-    if width <= 32 {
-        return ScalarType::Bits(32);
-    }
-    if width <= 64 {
-        return ScalarType::Bits(64);
-    }
-    ScalarType::TooWide
+    ScalarType::Bits(SCALAR_TYPES[width as usize] as u64)
 }

@@ -1,22 +1,20 @@
-use Rattle.text.proofs.Widths.{type-8, type-16, type-32, type-64, too-wide}
+use Rattle.text.proofs.Widths.{from-table, entry-fits, too-wide}
 use borrow.Author.Needs.{needs}
 use Rattle.text.proofs.get_cxx_scalar_type.Statement.{statement}
 use Rattle.text.proofs.get_cxx_scalar_type.Tie as tie
 
 returns : tie.Need-returns
-returns c = search (type-8, needs)
+returns c = too-wide (c .before .args .width) (search needs)
 
+array-read-t7 : tie.Need-array-read-t7
+array-read-t7 c = search needs
+
+cast-t8 : tie.Need-cast-t8
+cast-t8 c = search (entry-fits, needs)
+
+-- the test is computed over the constant itself, which the goal holds
 returns-2 : tie.Need-returns-2
-returns-2 c = search (type-16, needs)
-
-returns-3 : tie.Need-returns-3
-returns-3 c = search (type-32, needs)
-
-returns-4 : tie.Need-returns-4
-returns-4 c = search (type-64, needs)
-
-returns-5 : tie.Need-returns-5
-returns-5 c = search (too-wide, needs)
+returns-2 c = search (from-table, needs)
 
 pub get-cxx-scalar-type-spec : {M : Type 1} → statement M
-get-cxx-scalar-type-spec = tie.close (tie.spec returns returns-2 returns-3 returns-4 returns-5)
+get-cxx-scalar-type-spec = tie.close (tie.spec returns array-read-t7 cast-t8 returns-2)
