@@ -1,6 +1,7 @@
 /*
- * Tests the exported function from C: the marked cases P1 to P13 of document 01, records that are empty, cut or damaged, buffers of
- * every relevant size, and the cases of the stored sample, which the published Rust answered (oracle/README.md, 'Cases').
+ * Tests the exported function from C: the marked cases P1 to P13 of document 01, records that are empty, cut or damaged, names that are
+ * keywords of C++ (16), buffers of every relevant size, and the cases of the stored sample, which the published Rust answered
+ * (oracle/README.md, 'Cases').
  *   test SAMPLE
  * The last line is 'N passed, M failed'; the exit status is 0 if nothing failed.
  */
@@ -169,6 +170,83 @@ static void test_long(void)
     expect(gives(record, 0, 0, 1, record, 0), "nothing at all");
 }
 
+/* ---- names that C++17 keeps for itself: refusal 16 of document 02 */
+
+static const char *const keywords[] = {
+    "alignas", "alignof", "asm", "auto", "bool", "break", "case", "catch", "char", "char16_t", "char32_t", "class", "const", "const_cast",
+    "constexpr", "continue", "decltype", "default", "delete", "do", "double", "dynamic_cast", "else", "enum", "explicit", "export", "extern",
+    "false", "float", "for", "friend", "goto", "if", "inline", "int", "long", "mutable", "namespace", "new", "noexcept", "nullptr", "operator",
+    "private", "protected", "public", "register", "reinterpret_cast", "return", "short", "signed", "sizeof", "static", "static_assert",
+    "static_cast", "struct", "switch", "template", "this", "thread_local", "throw", "true", "try", "typedef", "typeid", "typename", "union",
+    "unsigned", "using", "virtual", "void", "volatile", "wchar_t", "while",
+    "and", "and_eq", "bitand", "bitor", "compl", "not", "not_eq", "or", "or_eq", "xor", "xor_eq",
+};
+#define KEYWORDS (sizeof keywords / sizeof keywords[0])
+_Static_assert(KEYWORDS == 73 + 11, "document 02 has 84 words");
+
+/* One of them at each place where a name stands. */
+static const struct {
+    const char *key, *record;
+} places[] = {
+    {"target", "endian=little\ntarget=int\narrays=lite\n" LAMP},
+    {"name", HEAD "decl=struct\nname=struct\nparent=-\n" LAMP},
+    {"parent", HEAD "decl=packet\nname=Lamp\nparent=union\n"},
+    {"id", HEAD LAMP "field=flag\nid=register\nif=-\n"},
+    {"of", HEAD LAMP "field=size\nof=xor\nwidth=8\nif=-\n"},
+    {"type", HEAD LAMP TYPEDEF("t", "wchar_t")},
+    {"tag", HEAD LAMP "field=fixedenum\ntype=Mode\ntag=true\nif=-\n"},
+    {"if", HEAD LAMP "field=scalar\nid=x\nwidth=8\nif=and\nis=1\n"},
+};
+
+static void expect_answer(const char *record, uint32_t answer, const char *text, const char *what, const char *which)
+{
+    expect(gives_in_every_room((const uint8_t *)record, strlen(record), answer, (const uint8_t *)text, strlen(text)), "%s %s", what, which);
+}
+
+/* A scalar of this name is read, or is 16. */
+static void test_scalar(const char *name, uint32_t answer)
+{
+    char record[256], text[256] = "";
+    snprintf(record, sizeof record, HEAD LAMP SCALAR("%s", "8"), name);
+    if (answer == 0)
+        snprintf(text, sizeof text, CHECK("1") "%s_ = span.read_le<uint8_t, 1>();\n", name);
+    expect_answer(record, answer, text, "the scalar", name);
+}
+
+/* The first part, the second so many times, and the third. */
+static const char *joined(const char *first, const char *second, size_t times, const char *third)
+{
+    static char record[8192];
+    char *at = record + sprintf(record, "%s", first);
+    while (times-- > 0)
+        at += sprintf(at, "%s", second);
+    sprintf(at, "%s", third);
+    return record;
+}
+
+static void test_keywords(void)
+{
+    for (size_t i = 0; i < KEYWORDS; i++) {
+        char name[33];
+        test_scalar(keywords[i], 16);
+        snprintf(name, sizeof name, "%s1", keywords[i]);
+        test_scalar(name, 0);
+        snprintf(name, sizeof name, "%c%s", keywords[i][0] - 'a' + 'A', keywords[i] + 1);
+        test_scalar(name, 0);
+    }
+    test_scalar("final", 0);
+    test_scalar("char8_t", 0);
+    for (size_t i = 0; i < sizeof places / sizeof places[0]; i++)
+        expect_answer(places[i].record, 16, "", "a keyword behind", places[i].key);
+
+    /* a broken line anywhere is 2; too many fields or declarations are 3 only where no name is a keyword */
+    expect_answer(HEAD LAMP SCALAR("int", "8") "\n", 2, "", "a keyword,", "then an empty line");
+    expect_answer(joined(HEAD LAMP, SCALAR("x", "8"), 65, ""), 3, "", "65 fields,", "no keyword");
+    expect_answer(joined(HEAD LAMP, SCALAR("x", "8"), 64, SCALAR("int", "8")), 16, "", "65 fields,", "the last is called int");
+    expect_answer(joined(HEAD, LAMP, 33, ""), 3, "", "33 declarations,", "no keyword");
+    expect_answer(joined(HEAD, LAMP, 32, "decl=packet\nname=int\nparent=-\n"), 16, "", "33 declarations,", "the last is called int");
+}
+
 /* ---- the stored sample */
 
 /* The number that ends at the byte `stop`; *at goes behind it. Any other text ends the test. */
@@ -239,6 +317,7 @@ int main(int argc, char **argv)
     test_cut();
     test_damaged();
     test_long();
+    test_keywords();
     test_sample(sample, size);
     free(sample);
     printf("%u passed, %u failed\n", passed, failed);

@@ -1,4 +1,4 @@
-//! The answer to any byte string: our refusals 1 to 9, then what the published Rust gives.
+//! The answer to any byte string: our refusals 1 to 9 and 16, then what the published Rust gives.
 
 use crate::analyzer::{Schema, Scope};
 use crate::backends::cxx::field_parser::{self, Panic};
@@ -10,25 +10,36 @@ use crate::sizes::Tables;
 /// What the program `lower` lends.
 pub const BUFFER: usize = 65_536;
 
-/// The lines as bytes, each with its newline, or the first of refusals 1 to 14.
+/// The lines as bytes, each with its newline, or the first of refusals 1 to 14 and 16.
 pub type Answer = Result<Vec<u8>, Refusal>;
 
 /// The answer; on the way our tables of sizes are checked against the published ones.
 pub fn answer(bytes: &[u8]) -> Answer {
-    let record = refusals::of_the_text(bytes)?;
-    let tables = Tables::new(&record);
+    lines_of(&refusals::of_the_text(bytes)?)
+}
+
+/// The same without refusal 16: the published Rust prints names that C++ keeps for itself.
+pub fn with_any_name(bytes: &[u8]) -> Answer {
+    let record = refusals::of_the_form(bytes)?;
+    refusals::of_the_declarations(&record)?;
+    lines_of(&record)
+}
+
+/// From refusal 7 on.
+fn lines_of(record: &Record) -> Answer {
+    let tables = Tables::new(record);
     refusals::of_the_sizes(&tables)?;
 
-    let file = published::file(&record);
+    let file = published::file(record);
     let scope = Scope::new(&file).expect("refusal 4 lets no name pass twice");
     let schema = Schema::new(&file);
     published::assert_equal_tables(&file, &schema, &tables);
 
-    refusals::of_the_target(&record, &tables)?;
+    refusals::of_the_target(record, &tables)?;
     let target = scope.typedef[&record.target];
     match field_parser::lines(&scope, &schema, record.arrays, target) {
         Ok(code) => Ok(joined(&code)),
-        Err(panic) => Err(of_panic(&record, panic)),
+        Err(panic) => Err(of_panic(record, panic)),
     }
 }
 

@@ -1,10 +1,9 @@
 //! Faults by chance in a good record: most of them break its form, some change what it says.
 
 use crate::random::Random;
-use crate::sketch::Sketch;
 
-pub fn damaged(whole: &Sketch, random: &mut Random) -> Vec<u8> {
-    let mut lines: Vec<Vec<u8>> = whole.lines().into_iter().map(String::into_bytes).collect();
+pub fn damaged(whole: Vec<String>, random: &mut Random) -> Vec<u8> {
+    let mut lines: Vec<Vec<u8>> = whole.into_iter().map(String::into_bytes).collect();
     for _ in 0..random.below(3) {
         damage_lines(&mut lines, random);
     }

@@ -3,6 +3,7 @@
 
 use crate::analyzer::{self, ArraySize, ElementSize, Schema, Scope};
 use crate::answer::Answer;
+use crate::keywords::is_like_a_keyword;
 use crate::published;
 use crate::record::{Arrays, Decl, DeclDesc, Element, Endian, Field, FieldDesc, Record};
 use std::collections::BTreeSet;
@@ -37,6 +38,8 @@ fn of_accepted(record: &Record, lines: &[u8], found: &mut BTreeSet<String>) {
     let children = record.decls.iter().filter(|decl| has_parent(decl));
     found.extend(children.map(|decl| format!("declaration {} with parent", decl.kind())));
     found.extend(target(record).map(|decl| format!("target {}", decl.kind())));
+    let like_a_keyword = record.names().into_iter().filter(|(_, name)| is_like_a_keyword(name));
+    found.extend(like_a_keyword.map(|(key, _)| format!("like a keyword: {key}")));
     of_target(record, "accepted", found);
     found.extend(array_shapes(record));
     found.extend(reads(lines));

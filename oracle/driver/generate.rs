@@ -1,9 +1,11 @@
 //! Records by chance, from a seed. They follow the grammar of document 01 and lean towards
 //! acceptance: runs mostly fill whole octets, names are few so that fields really name each other.
+//! No name is a keyword of C++ but in the flavour that is about names.
 
 use crate::damage;
+use crate::names;
 use crate::random::Random;
-use crate::sketch::{DeclSketch, Sketch};
+use crate::sketch::{self, DeclSketch, Sketch};
 
 #[derive(Clone, Copy)]
 pub enum Flavour {
@@ -15,13 +17,17 @@ pub enum Flavour {
     Damaged,
     /// Static sizes around 2^31, and far beyond.
     Sizes,
+    /// All of these with keywords of C++ and words like them as names. It stands behind the others,
+    /// whose records are what they are without it.
+    Names,
 }
 
-pub const FLAVOURS: [(&str, Flavour); 4] = [
+pub const FLAVOURS: [(&str, Flavour); 5] = [
     ("small", Flavour::Small),
     ("mixed", Flavour::Mixed),
     ("damaged", Flavour::Damaged),
     ("sizes", Flavour::Sizes),
+    ("names", Flavour::Names),
 ];
 
 /// The records of a seed, one after the other.
@@ -36,10 +42,25 @@ fn record(flavour: Flavour, random: &mut Random) -> Vec<u8> {
         Flavour::Mixed => mixed(random).bytes(),
         Flavour::Damaged => {
             let whole = if random.once_in(8) { mixed(random) } else { small(random) };
-            damage::damaged(&whole, random)
+            damage::damaged(whole.lines(), random)
         }
         Flavour::Sizes => near_the_largest_size(random).bytes(),
+        Flavour::Names => renamed(random),
     }
+}
+
+fn renamed(random: &mut Random) -> Vec<u8> {
+    let whole = match random.below(16) {
+        0 => near_the_largest_size(random),
+        1..=4 => mixed(random),
+        _ => small(random),
+    };
+    let mut lines = whole.lines();
+    names::rename(&mut lines, random);
+    if random.once_in(8) {
+        return damage::damaged(lines, random);
+    }
+    sketch::joined(&lines)
 }
 
 fn small(random: &mut Random) -> Sketch {

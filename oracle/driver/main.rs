@@ -19,8 +19,10 @@ mod families;
 mod features;
 mod generate;
 mod histogram;
+mod keywords;
 mod lean;
 mod marked;
+mod names;
 #[cfg(port)]
 mod port;
 mod published;
@@ -31,7 +33,7 @@ mod sizes;
 mod sketch;
 mod timing;
 
-use answer::{answer, BUFFER};
+use answer::{answer, Answer, BUFFER};
 use cases::Case;
 use generate::{Flavour, FLAVOURS};
 use histogram::Histogram;
@@ -42,18 +44,22 @@ use std::process::ExitCode;
 const USAGE: &str = "\
 judge answer < RECORD                the lines, or refused=N
 judge sizes < RECORD                 the tables of sizes, or refused=N
+judge published < RECORD             the same without refusal 16: names that are keywords are printed
+judge record SHORTHAND > RECORD      a record, as in 'little Lamp lite; packet Lamp -: scalar amps 16'
+judge words                          the keywords of refusal 16, one a line
 judge marked > CASES                 the marked cases of document 01, its faults and its limits
+judge keywords > CASES               the marked cases of refusal 16, each of its words among them
 judge generate SEED COUNT FLAVOUR > CASES
-                                     cases by chance: small, mixed, damaged or sizes
-judge select EACH < CASES > CASES    those with a feature that fewer than EACH of the marked cases
-                                     and those chosen before show
+                                     cases by chance: small, mixed, damaged, sizes or names
+judge select EACH < CASES > CASES    those with a feature that fewer than EACH of document 01's
+                                     marked cases and those chosen before show
 judge replay < CASES                 whether the stored answers are the judge's
 judge digest < CASES                 one number for the size tables of all cases past refusal 9
 judge histogram < CASES              what the cases show
 judge survey SEED COUNT              the same for COUNT generated cases of each flavour
 judge bench SEED COUNT               nanoseconds for accepted records: COUNT mixed ones, and families
-judge compare SEED COUNT             the port against the judge: the marked cases, and COUNT
-                                     generated ones of each flavour (see oracle/compare)
+judge compare SEED COUNT             the port against the judge: the marked cases of both, and
+                                     COUNT generated ones of each flavour (see oracle/compare)
 ";
 
 type Outcome = Result<ExitCode, Box<dyn Error>>;
@@ -63,9 +69,13 @@ fn main() -> Outcome {
     let arguments: Vec<String> = std::env::args().skip(1).collect();
     let words: Vec<&str> = arguments.iter().map(String::as_str).collect();
     match words[..] {
-        ["answer"] => print_answer(),
+        ["answer"] => print_answer(answer),
+        ["published"] => print_answer(answer::with_any_name),
+        ["record", shorthand] => print_record(shorthand),
+        ["words"] => print_words(),
         ["sizes"] => print_sizes(),
         ["marked"] => write_cases(marked::records()),
+        ["keywords"] => write_cases(marked::keyword_records()),
         ["generate", seed, count, flavour] => {
             write_cases(generate::records(named(flavour)?, seed.parse()?, count.parse()?))
         }
@@ -104,11 +114,21 @@ fn for_each_case(mut each: impl FnMut(Case) -> io::Result<()>) -> io::Result<()>
     Ok(())
 }
 
-fn print_answer() -> Outcome {
+fn print_answer(answer: fn(&[u8]) -> Answer) -> Outcome {
     match answer::within(BUFFER, &answer(&read_all()?)) {
         (0, lines) => io::stdout().write_all(lines)?,
         (number, _) => println!("refused={number}"),
     }
+    Ok(ExitCode::SUCCESS)
+}
+
+fn print_record(shorthand: &str) -> Outcome {
+    io::stdout().write_all(&sketch::record(shorthand))?;
+    Ok(ExitCode::SUCCESS)
+}
+
+fn print_words() -> Outcome {
+    keywords::words().iter().for_each(|word| println!("{word}"));
     Ok(ExitCode::SUCCESS)
 }
 
@@ -165,7 +185,7 @@ fn print_digest() -> Outcome {
     for_each_case(|case| {
         let answer = answer(&case.record);
         let (number, _) = answer::within(BUFFER, &answer);
-        if number == 0 || 9 < number {
+        if number == 0 || (10..=14).contains(&number) {
             let record = refusals::of_the_text(&case.record).expect("answered past refusal 9");
             digest = sizes::mixed(digest, sizes::Tables::new(&record).digest());
         }
@@ -208,7 +228,8 @@ fn compare_port(seed: u64, count: usize) -> Outcome {
     let mut comparison = compare::Comparison::new();
     let mut differences = 0;
     let generated = FLAVOURS.iter().flat_map(|(_, flavour)| generate::records(*flavour, seed, count));
-    for record in marked::records().into_iter().chain(generated) {
+    let marked = marked::records().into_iter().chain(marked::keyword_records());
+    for record in marked.chain(generated) {
         let answer = answer(&record);
         if let Some(difference) = comparison.difference(&record, &answer) {
             differences += 1;

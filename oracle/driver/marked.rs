@@ -1,8 +1,10 @@
 //! The marked cases of document 01 first, then its five faults, its limits, and every shape of
-//! array. They stand at the front of the stored sample.
+//! array. They stand at the front of the stored sample. Those of refusal 16 (document 02, Card 6)
+//! are a list of their own, which stands at its end.
 
-use crate::answer::answer;
+use crate::answer::{answer, within, BUFFER};
 use crate::generate::BLOCK;
+use crate::keywords::{near_forms, words};
 use crate::sketch::{record, DeclSketch, Sketch};
 use Expected::{Among, Lines, Refused};
 
@@ -389,3 +391,147 @@ const NO_FIELDS: &[&str] = &[
     "field=scalar\nid=x\nwidth= 8\nif=-\n",
     "field=scalar \nid=x\nwidth=8\nif=-\n",
 ];
+
+/// Those of refusal 16. Fails loudly where the judge is not of document 02's opinion.
+pub fn keyword_records() -> Vec<Vec<u8>> {
+    let mut all: Vec<Vec<u8>> = KEYWORDS.iter().map(|shorthand| answered(16, record(shorthand))).collect();
+    all.extend(NO_KEYWORDS.iter().map(|shorthand| answered(0, record(shorthand))));
+    all.extend(in_order());
+    all.extend(words().iter().map(|word| answered(16, lamp(&format!("scalar {word} 8")))));
+    all.extend(words().iter().map(|word| answered(0, near(word))));
+    all
+}
+
+fn answered(number: u8, record: Vec<u8>) -> Vec<u8> {
+    let answer = answer(&record);
+    let (found, _) = within(BUFFER, &answer);
+    assert_eq!(found, number, "not as document 02 says: {answer:?}:\n{}", String::from_utf8_lossy(&record));
+    record
+}
+
+/// A keyword at each of the eight places, in each kind that has it, also where another refusal would
+/// follow, or no line would print the name.
+const KEYWORDS: &[&str] = &[
+    // target, alone and with its declaration
+    "little int lite; packet Lamp -",
+    "little register lite; packet register -: scalar x 8",
+    // name
+    "little Lamp lite; packet private -; packet Lamp -",
+    "little Lamp lite; struct struct -; packet Lamp -",
+    "little Lamp lite; enum enum 8 0 0; packet Lamp -",
+    "little Lamp lite; checksum char16_t 8; packet Lamp -",
+    "little Lamp lite; custom void -; packet Lamp -",
+    "little Lamp lite; packet Lamp -; custom bitand 8",
+    // parent
+    "little Lamp lite; packet Lamp union",
+    "little Lamp lite; struct Lamp class",
+    // id
+    "little Lamp lite; packet Lamp -: scalar register 8",
+    "little Lamp lite; packet Lamp -: flag register, reserved 7, scalar x 8 if register 1",
+    "little Lamp lite; struct Cell -: scalar c 8; packet Lamp -: typedef new Cell",
+    "big Lamp full; packet Lamp -: array signed 16 - - 2",
+    "big Lamp full; custom Blob -; packet Lamp -: elemsize a 8, array bitor - Blob +1 -",
+    // of
+    "little Lamp lite; packet Lamp -: size xor 8",
+    "little Lamp lite; packet Lamp -: count short 8",
+    "little Lamp lite; packet Lamp -: elemsize not_eq 8",
+    "little Lamp lite; packet Lamp -: checksum this",
+    // type, alone and with its declaration
+    "little Lamp lite; packet Lamp -: typedef t wchar_t",
+    "little Lamp lite; packet Lamp -: fixedenum bool OFF",
+    "little Lamp full; packet Lamp -: array a - double - 2",
+    "little Lamp full; struct double -: scalar c 8; packet Lamp -: array a - double - 2",
+    // tag
+    "little Lamp lite; enum Mode 8 0 0; packet Lamp -: fixedenum Mode true",
+    // if, also of a field that cannot be optional
+    "little Lamp lite; packet Lamp -: scalar x 8 if and 1",
+    "little Lamp lite; enum Mode 8 0 0; packet Lamp -: typedef m Mode if default 0",
+    "little Lamp lite; packet Lamp -: payload - if compl 1",
+    // a declaration that the target does not reach, and a field that emits no line
+    "little Lamp lite; struct Cell -: scalar return 8; packet Lamp -: scalar x 8",
+    "little Lamp lite; packet Lamp -: scalar x 8; packet Late Lamp: flag if, fixedenum Mode delete",
+    "little Lamp lite; packet Lamp -: scalar goto 4",
+    // before 4, 5, 6, 7, 8, 9 and 10 to 14
+    "little Lamp lite; packet Lamp -; packet Lamp -: scalar int 8",
+    "little Lamp lite; packet while -; packet while -",
+    "little Lamp lite; packet Lamp -: typedef int Missing",
+    "little Lamp lite; packet Lamp -: scalar int 65",
+    "little Lamp lite; struct Block -: array b 8 - - 65535; packet Lamp -: array int - Block - 4097",
+    "little Lamp lite; packet Lamp -: array int 12 - - 2",
+    "little Missing lite; packet Lamp -: scalar int 8",
+    "little Lamp lite; packet Lamp -: scalar x 8, scalar int 4",
+    "little Lamp lite; packet Lamp -: scalar int 4, payload -",
+    "little Lamp lite; packet Lamp -: scalar int 60, scalar y 12",
+    "little Lamp lite; packet Lamp -: reserved 8 if int 1",
+    "little Lamp lite; packet Lamp -: payload -, scalar int 8 if c 1",
+];
+
+/// Names that are no keyword of C++17: with another letter, one more or one less, of other versions
+/// of C++, of C, with a meaning at some places only; at each of the eight places.
+const NO_KEYWORDS: &[&str] = &[
+    "little Class lite; enum Enum 8 0 0; struct Struct -: scalar Int 8; \
+     packet Class Struct: flag Register, reserved 7, fixedenum Enum True, size Xor 8, \
+     array Xor 8 - +1 -, typedef And Struct if Register 1, typedef Or Enum if Register 0, checksum Not",
+    "big register1 full; enum int1 8 0 0; struct union1 -: scalar this1 8; custom void1 -; \
+     packet register1 union1: flag if1, reserved 7, fixedenum int1 true1, count new1 8, \
+     array new1 - int1 - -, elemsize xor1 8, array xor1 - void1 - 2, typedef and1 union1 if if1 1",
+    "little _class full; enum xor_ 8 1 0; struct _if -: payload -; \
+     packet _class _if: scalar register_ 8, typedef not_ xor_, size do_ 8, array do_ 16 - -2 -, padding 9, \
+     typedef _or _if, scalar _and 16",
+    "big classes lite; enum enums 8 0 1; struct structs -: scalar ints 8; custom voids -; \
+     packet classes structs: scalar char8_t 8, typedef final enums if char8_t 3, elemsize override 8, \
+     array override - voids - -",
+    "little Lamp lite; packet Lamp -: scalar final 8, scalar override 8, scalar import 8, scalar module 8, \
+     scalar char8_t 8, scalar concept 8, scalar consteval 8, scalar constinit 8, scalar co_await 8, \
+     scalar co_return 8, scalar co_yield 8, scalar requires 8, scalar restrict 8, scalar typeof 8, \
+     scalar _Bool 8, scalar atomic_cancel 8, scalar synchronized 8, scalar reflexpr 8, scalar audit 8, \
+     scalar axiom 8, scalar std 8, scalar NULL 8",
+    "little Lamp lite; packet Lamp -: scalar REGISTER 8, scalar rEGISTER 8, scalar registeR 8, \
+     scalar regist 8, scalar egister 8, scalar xregister 8, scalar registers 8, scalar register_register 8, \
+     scalar xoreq 8, scalar xor__eq 8, scalar _xor_eq 8, scalar char16 8, scalar char16t 8, \
+     scalar char17_t 8, scalar reinterpret_casts 8, scalar reinterpret_cast_reinterpret_cas 8",
+];
+
+/// 1 and 2 come before it, 3 behind it: also where the keyword stands first and the bad line last, and
+/// in a 33rd declaration or a 65th field.
+fn in_order() -> Vec<Vec<u8>> {
+    let bad = |record: Vec<u8>| [record, b"field=scalar\n".to_vec()].concat();
+    let decls = |at: usize| {
+        let name = |k: usize| if k == at { "int".to_string() } else { format!("C{k}") };
+        let others: Vec<String> = (2..=33).map(|k| format!("; checksum {} 8", name(k))).collect();
+        record(&format!("little Lamp lite; packet Lamp -{}", others.concat()))
+    };
+    let fields = |at: usize| {
+        let name = |k: usize| if k == at { "int" } else { "x" };
+        lamp(&(1..=65).map(|k| format!("scalar {} 8", name(k))).collect::<Vec<_>>().join(", "))
+    };
+    vec![
+        answered(2, bad(lamp("scalar int 8"))),
+        answered(2, lamp("scalar int 8, scalar y 08")),
+        answered(2, lamp("scalar y 08, scalar int 8")),
+        answered(2, lamp("scalar int 8, flag span")),
+        answered(2, record("little int lite; packet Lamp -: array a - - - 2")),
+        answered(2, lamp("scalar int 8").strip_suffix(b"\n").expect("a record").to_vec()),
+        answered(16, decls(2)),
+        answered(16, decls(33)),
+        answered(2, bad(decls(33))),
+        answered(16, fields(1)),
+        answered(16, fields(65)),
+        answered(2, bad(fields(65))),
+        answered(16, with_a_long_keyword(16_384)),
+        answered(1, with_a_long_keyword(16_385)),
+    ]
+}
+
+/// A record of this length whose last name of 16 bytes is a keyword.
+fn with_a_long_keyword(length: usize) -> Vec<u8> {
+    let text = String::from_utf8(of_length(length)).expect("a record is ASCII");
+    let (before, behind) = text.rsplit_once("=xxxxxxxxxxxxxxxx\n").expect("a name of 16 bytes");
+    format!("{before}=reinterpret_cast\n{behind}").into_bytes()
+}
+
+/// Names that differ from a word in one letter.
+fn near(word: &str) -> Vec<u8> {
+    let scalars: Vec<String> = near_forms(word).iter().map(|name| format!("scalar {name} 8")).collect();
+    lamp(&scalars.join(", "))
+}

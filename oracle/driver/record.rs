@@ -127,6 +127,28 @@ impl FieldDesc {
             FieldDesc::Checksum { .. } => "checksum",
         }
     }
+
+    /// The names of its own keys, with these.
+    fn names(&self) -> Vec<(&'static str, &str)> {
+        match self {
+            FieldDesc::Scalar { id, .. }
+            | FieldDesc::Flag { id }
+            | FieldDesc::Array { id, element: Element::Width(_), .. } => vec![("id", id)],
+            FieldDesc::Typedef { id, type_ } | FieldDesc::Array { id, element: Element::Type(type_), .. } => {
+                vec![("id", id), ("type", type_)]
+            }
+            FieldDesc::Size { of, .. }
+            | FieldDesc::Count { of, .. }
+            | FieldDesc::ElemSize { of, .. }
+            | FieldDesc::Checksum { of } => vec![("of", of)],
+            FieldDesc::FixedEnum { type_, tag } => vec![("type", type_), ("tag", tag)],
+            FieldDesc::Fixed { .. }
+            | FieldDesc::Reserved { .. }
+            | FieldDesc::Payload { .. }
+            | FieldDesc::Body
+            | FieldDesc::Padding { .. } => Vec::new(),
+        }
+    }
 }
 
 impl Record {
@@ -148,6 +170,20 @@ impl Record {
 
     pub fn find(&self, name: &str) -> Option<&Decl> {
         self.decls.iter().find(|decl| decl.name == name)
+    }
+
+    /// Every name, used or not, with the key that it stands behind, in the order of the record.
+    pub fn names(&self) -> Vec<(&'static str, &str)> {
+        let mut names = vec![("target", &self.target[..])];
+        for decl in &self.decls {
+            names.push(("name", &decl.name));
+            names.extend(decl.block().and_then(|block| block.parent.as_deref()).map(|name| ("parent", name)));
+            for field in decl.fields() {
+                names.extend(field.desc.names());
+                names.extend(field.cond.as_ref().map(|cond| ("if", &cond.name[..])));
+            }
+        }
+        names
     }
 }
 

@@ -1,6 +1,8 @@
-//! Refusals 1 to 9 of document 01, one function for each, in its order. Each looks at the whole
-//! record before the next one does, and yields why the record is turned back, if it is.
+//! Refusals 1 to 9 of document 01 and 16 of document 02, one function for each, in the order in
+//! which they are tested: 16 stands between 2 and 3. Each looks at the whole record before the next
+//! one does, and yields why the record is turned back, if it is.
 
+use crate::keywords::is_keyword;
 use crate::record::{Decl, DeclDesc, Element, Field, FieldDesc, Modifier, Record};
 use crate::sizes::{DeclSizes, Size, Tables};
 
@@ -9,7 +11,7 @@ const MOST_DECLS: usize = 32;
 const MOST_FIELDS: usize = 64;
 const MOST_BITS: u128 = (1 << 31) - 1;
 
-/// A number of document 01, and which part of its sentence holds.
+/// A number of document 01 or 02, and which part of its sentence holds.
 #[derive(Debug)]
 pub struct Refusal {
     pub number: u8,
@@ -18,15 +20,34 @@ pub struct Refusal {
 
 type Reason = Option<&'static str>;
 
-/// Refusals 1 to 6. Behind them the tables of sizes can be computed.
+/// Refusals 1, 2, 16 and 3 to 6. Behind them the tables of sizes can be computed.
 pub fn of_the_text(bytes: &[u8]) -> Result<Record, Refusal> {
-    refuse(1, is_empty_or_too_long(bytes))?;
-    let record = Record::read(bytes).map_err(|because| Refusal { number: 2, because })?;
-    refuse(3, has_too_many_parts(&record))?;
-    refuse(4, has_one_name_twice(&record))?;
-    refuse(5, names_no_earlier_declaration(&record))?;
-    refuse(6, has_a_number_outside_its_range(&record))?;
+    let record = of_the_form(bytes)?;
+    of_the_names(&record)?;
+    of_the_declarations(&record)?;
     Ok(record)
+}
+
+/// Refusals 1 and 2.
+pub fn of_the_form(bytes: &[u8]) -> Result<Record, Refusal> {
+    refuse(1, is_empty_or_too_long(bytes))?;
+    Record::read(bytes).map_err(|because| Refusal { number: 2, because })
+}
+
+/// Refusal 16. It has no counterpart in the published Rust, which prints such names.
+fn of_the_names(record: &Record) -> Result<(), Refusal> {
+    match record.names().into_iter().find(|(_, name)| is_keyword(name)) {
+        Some((key, _)) => Err(Refusal { number: 16, because: format!("a keyword behind {key}") }),
+        None => Ok(()),
+    }
+}
+
+/// Refusals 3 to 6.
+pub fn of_the_declarations(record: &Record) -> Result<(), Refusal> {
+    refuse(3, has_too_many_parts(record))?;
+    refuse(4, has_one_name_twice(record))?;
+    refuse(5, names_no_earlier_declaration(record))?;
+    refuse(6, has_a_number_outside_its_range(record))
 }
 
 /// Refusal 7. Behind it the published `Schema` can be built.

@@ -53,16 +53,17 @@ impl Sketch {
     /// The record's lines, without newlines.
     pub fn lines(&self) -> Vec<String> {
         let mut lines = Vec::new();
-        push_lines(&mut lines, &HEAD_KEYS, &self.head);
+        push_lines(&mut lines, &HEAD_KEYS, &words(&self.head));
         for decl in &self.decls {
-            push_lines(&mut lines, decl_keys(first_word(&decl.head)), &decl.head);
+            let values = words(&decl.head);
+            push_lines(&mut lines, decl_keys(values[0]), &values);
             decl.fields.iter().for_each(|field| push_field(&mut lines, field));
         }
         lines
     }
 
     pub fn bytes(&self) -> Vec<u8> {
-        self.lines().iter().fold(String::new(), |text, line| text + line + "\n").into_bytes()
+        joined(&self.lines())
     }
 }
 
@@ -74,29 +75,34 @@ impl DeclSketch {
     }
 }
 
+/// Lines with their newlines.
+pub fn joined(lines: &[String]) -> Vec<u8> {
+    lines.iter().fold(String::new(), |text, line| text + line + "\n").into_bytes()
+}
+
 /// The record of a shorthand.
 pub fn record(shorthand: &str) -> Vec<u8> {
     Sketch::new(shorthand).bytes()
 }
 
-fn first_word(shorthand: &str) -> &str {
-    shorthand.split(' ').next().unwrap_or_default()
+fn words(shorthand: &str) -> Vec<&str> {
+    shorthand.split(' ').collect()
 }
 
-fn push_lines(lines: &mut Vec<String>, keys: &[&str], values: &str) {
-    let values: Vec<&str> = values.split(' ').collect();
+fn push_lines(lines: &mut Vec<String>, keys: &[&str], values: &[&str]) {
     assert_eq!(keys.len(), values.len(), "{values:?} for {keys:?}");
     lines.extend(keys.iter().zip(values).map(|(key, value)| format!("{key}={value}")));
 }
 
+/// The condition stands behind the values of the kind's keys, so that a name may be `if`.
 fn push_field(lines: &mut Vec<String>, field: &str) {
-    let (desc, cond) = match field.split_once(" if ") {
-        Some((desc, cond)) => (desc, Some(cond)),
-        None => (field, None),
-    };
-    push_lines(lines, field_keys(first_word(desc)), desc);
+    let values = words(field);
+    let keys = field_keys(values[0]);
+    let (desc, cond) = values.split_at(keys.len().min(values.len()));
+    push_lines(lines, keys, desc);
     match cond {
-        Some(cond) => push_lines(lines, &["if", "is"], cond),
-        None => lines.push("if=-".to_string()),
+        [] => lines.push("if=-".to_string()),
+        ["if", cond @ ..] => push_lines(lines, &["if", "is"], cond),
+        _ => panic!("no condition: {cond:?}"),
     }
 }

@@ -7,8 +7,9 @@ use mathlib.Core.List.{List, [], _∷_, _++_}
 use Prim.Native.Nat.{ℕ, zero, suc, _*_, _^_}
 use Prim.Native.String.{String}
 use lib.Dec.{eqb}
-use lib.ListN.{replicate, drop}
+use lib.ListN.{length, replicate, drop}
 use Rattle.definitions.specs.Bytes.{Text, text, same, all}
+use Rattle.definitions.specs.Keywords.{keywords}
 use Rattle.definitions.specs.Answer.{Lowered, lower, word, bufferAfter}
 use Rattle.definitions.proofs.Opened.{everything}
 
@@ -191,6 +192,48 @@ others =
 others-right : all right others ≡ true
 unfolding everything lite full packet struct lamp plain scalar refuses prints agrees right repeated enum array large inFull others
 others-right = refl
+
+-- ---- 16: a name that C++ keeps for itself
+
+how-many : length keywords ≡ 84
+unfolding everything
+how-many = refl
+
+-- a scalar of this name is read
+named : String → Case
+named id = prints (lamp (scalar id "4")) ""
+
+taken : List Case
+taken =
+    -- at each of the eight places: id, target, name, parent, of, type, tag, if
+    refuses (lamp (scalar "register" "8")) 16
+    ∷ refuses (text "endian=little\ntarget=int\narrays=lite\n" ++ packet "Lamp") 16
+    ∷ refuses (lite ++ (struct "struct" ++ packet "Lamp")) 16
+    ∷ refuses (lite ++ text "decl=packet\nname=Lamp\nparent=union\n") 16
+    ∷ refuses (lamp (plain "size\nof=xor\nwidth=8")) 16
+    ∷ refuses (lamp (plain "typedef\nid=t\ntype=wchar_t")) 16
+    ∷ refuses (lamp (plain "fixedenum\ntype=E\ntag=true")) 16
+    ∷ refuses (lamp (text "field=scalar\nid=o\nwidth=8\nif=and\nis=1\n")) 16
+    -- the first and the last word of each table, and the longest
+    ∷ refuses (lamp (scalar "alignas" "8")) 16
+    ∷ refuses (lamp (scalar "while" "8")) 16
+    ∷ refuses (lamp (scalar "xor_eq" "8")) 16
+    ∷ refuses (lamp (scalar "reinterpret_cast" "8")) 16
+    -- only the exact word, and no word of other versions
+    ∷ named "Register"
+    ∷ named "register1"
+    ∷ named "registe"
+    ∷ named "final"
+    ∷ named "char8_t"
+    -- 2 is tested over the whole record before it, and it before 3: also in a 65th field and a 33rd declaration
+    ∷ refuses (lamp (scalar "int" "8" ++ text "\n")) 2
+    ∷ refuses (lamp (repeated 64 (plain "body") ++ scalar "int" "8")) 16
+    ∷ refuses (lite ++ (repeated 32 (packet "Lamp") ++ packet "int")) 16
+    ∷ []
+
+taken-right : all right taken ≡ true
+unfolding everything lite packet struct lamp plain scalar refuses prints agrees right repeated named taken
+taken-right = refl
 
 -- ---- 15, the word and the buffer: P3 has 81 bytes
 

@@ -1,4 +1,5 @@
 pub mod Bytes
+pub mod Keywords
 pub mod Record
 pub mod Sizes
 pub mod Refusals

@@ -1,4 +1,5 @@
--- Document 01, 'The answer, and why a record is turned back': the number of each refusal, and refusals 3 to 9, each a test over the whole record.
+-- Document 01, 'The answer, and why a record is turned back': the number of each refusal, and refusals 3 to 9, each a test over the whole record;
+-- and before them 16 of document 02.
 -- Assumes nothing.
 use mathlib.Core.Bool.{Bool, true, false, not, _&&_, _||_}
 use mathlib.Core.List.{List, [], _∷_, _++_}
@@ -6,7 +7,8 @@ use mathlib.Core.Option.{Option, none, some}
 use Prim.Native.Nat.{ℕ, _+_, _-_, _%_, _^_}
 use lib.Dec.{ltb, eqb}
 use lib.ListN.{length}
-use Rattle.definitions.specs.Bytes.{Text, any}
+use Rattle.definitions.specs.Bytes.{Text, any, part}
+use Rattle.definitions.specs.Keywords.{isKeyword}
 use Rattle.definitions.specs.Record.{Declaration}
 use Rattle.definitions.specs.Sizes.{Schema, Entry, Row, Annotated, sameName, parentId, descEnum, enumOf, isEnum, totalSize, totalOf, staticWidth}
 use Rattle.definitions.specs.declared.EnumOf.{EnumOf}
@@ -19,6 +21,7 @@ use Rattle.definitions.specs.declared.FieldDesc.{FieldDesc}
 use Rattle.definitions.specs.declared.Cond.{Cond}
 use Rattle.definitions.specs.declared.Field.{Field}
 use Rattle.definitions.specs.declared.DeclDesc.{DeclDesc}
+use Rattle.definitions.specs.declared.Decl.{Decl}
 use Rattle.definitions.specs.declared.Size.{Size}
 use Rattle.definitions.specs.declared.Refusal.{Refusal}
 use Rattle.definitions.specs.declared.Verdict.{Verdict}
@@ -26,6 +29,7 @@ use Rattle.definitions.specs.declared.Verdict.{Verdict}
 abbrev pub number : Refusal → ℕ
 number Refusal.RecordLength = 1
 number Refusal.RecordForm = 2
+number Refusal.Keyword = 16
 number Refusal.TooMany = 3
 number Refusal.DuplicateName = 4
 number Refusal.UnknownName = 5
@@ -39,6 +43,58 @@ number Refusal.ScalarTooWide = 12
 number Refusal.UnsupportedOptional = 13
 number Refusal.MultipleUnknown = 14
 number Refusal.NoRoom = 15
+
+-- ---- 16: a name of the record is a keyword of C++17 (document 02, Card 6)
+
+abbrev pub maybeName : MaybePart → List Part
+maybeName MaybePart.None = []
+maybeName (MaybePart.Some name) = name ∷ []
+
+abbrev pub descNames : FieldDesc → List Part
+descNames (FieldDesc.Checksum of) = of ∷ []
+descNames (FieldDesc.Padding size) = []
+descNames (FieldDesc.Size of width) = of ∷ []
+descNames (FieldDesc.Count of width) = of ∷ []
+descNames (FieldDesc.ElementSize of width) = of ∷ []
+descNames FieldDesc.Body = []
+descNames (FieldDesc.Payload modifier) = []
+descNames (FieldDesc.FixedScalar width value) = []
+descNames (FieldDesc.FixedEnum type tag) = type ∷ tag ∷ []
+descNames (FieldDesc.Reserved width) = []
+descNames (FieldDesc.Array id width type modifier size) = id ∷ maybeName type
+descNames (FieldDesc.Scalar id width) = id ∷ []
+descNames (FieldDesc.Flag id) = id ∷ []
+descNames (FieldDesc.Typedef id type) = id ∷ type ∷ []
+
+abbrev pub condNames : Cond → List Part
+condNames Cond.None = []
+condNames (Cond.Some id value) = id ∷ []
+
+abbrev pub fieldNames : Field → List Part
+fieldNames f = descNames (f .desc) ++ condNames (f .cond)
+
+abbrev pub declNames : Decl → List Part
+declNames d = d .id ∷ maybeName (parentId (d .desc))
+
+-- of fields, and of declarations with theirs
+abbrev pub fieldsNames : List Field → List Part
+fieldsNames [] = []
+fieldsNames (f ∷ fs) = fieldNames f ++ fieldsNames fs
+
+abbrev pub declarationsNames : List Declaration → List Part
+declarationsNames [] = []
+declarationsNames (d ∷ ds) = declNames (d .decl) ++ (fieldsNames (d .fields) ++ declarationsNames ds)
+
+-- every name of the record
+abbrev pub recordNames : Head → List Declaration → List Part
+recordNames h ds = h .target ∷ declarationsNames ds
+
+-- one of these names is a keyword
+unfoldable pub anyKeyword : Text → List Part → Bool
+anyKeyword s names = any (λ (n : Part). isKeyword (part s n)) names
+
+abbrev pub keywordName : Text → Head → List Declaration → Bool
+keywordName s h ds = anyKeyword s (recordNames h ds)
 
 -- ---- 3: more than 32 declarations, or one with more than 64 fields
 
@@ -241,13 +297,14 @@ abbrev pub refuseIf : Bool → Refusal → Verdict → Verdict
 refuseIf true why next = Verdict.Refuse why
 refuseIf false why next = next
 
--- 3 to 9; `schema` are the tables of `ds`
+-- 16, then 3 to 9; `schema` are the tables of `ds`
 unfoldable pub verdict : Text → Head → List Declaration → Schema → Verdict
 verdict s h ds schema =
-    refuseIf (tooMany ds) Refusal.TooMany
+    refuseIf (keywordName s h ds) Refusal.Keyword
+    (refuseIf (tooMany ds) Refusal.TooMany
     (refuseIf (duplicateName s ds) Refusal.DuplicateName
     (refuseIf (unknownName s ds) Refusal.UnknownName
     (refuseIf (outOfRange ds) Refusal.OutOfRange
     (refuseIf (large schema) Refusal.TooLarge
     (refuseIf (ragged s schema) Refusal.NotWholeBytes
-    (refuseIf (noTarget s h schema) Refusal.NoTarget Verdict.Pass))))))
+    (refuseIf (noTarget s h schema) Refusal.NoTarget Verdict.Pass)))))))

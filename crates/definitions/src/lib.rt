@@ -1,6 +1,6 @@
 // The types that the definitions and the code share, by value: those of ast.rs, the sizes of analyzer.rs, what the record's reader finds
-// at a place, and the refusals of document 01. What must be believed about the answer stands in specs/, in the order of document 01:
-// Bytes, Record, Sizes, Refusals, Lines, Blocks, FieldParser, Answer. (Tables: sizes as numbers of a table.)
+// at a place, and the refusals of documents 01 and 02. What must be believed about the answer stands in specs/, in the order of document 01:
+// Bytes, Record, Sizes, Refusals, Lines, Blocks, FieldParser, Answer. (Keywords: the words of refusal 16. Tables: sizes as numbers of a table.)
 
 // ---- ast.rs: a name is a part of the record and is not copied; what may be absent is an enum of its own
 
@@ -183,11 +183,13 @@ pub enum Reference {
     ElementSize { field_id: Part },
 }
 
-// ---- why a record is turned back: the refusals of document 01, in its order. 10 to 14 are the panics of cxx.rs
+// ---- why a record is turned back: the refusals of document 01, in its order, and 16 of document 02, which is tested behind 2. 10 to 14 are the panics
+// of cxx.rs
 
 pub enum Refusal {
     RecordLength,
     RecordForm,
+    Keyword,
     TooMany,
     DuplicateName,
     UnknownName,
@@ -209,7 +211,8 @@ pub enum Verdict {
     Refuse(Refusal),
 }
 
-// ---- what stands at a place of the record, and the place behind its newline
+// ---- what stands at a place of the record by its form alone, and the place behind its newline. What is made of several lines, and a name that may be
+// absent, are the definitions' alone: the code has the screened ones below
 
 pub enum Found {
     At(usize),
@@ -268,5 +271,62 @@ pub enum HeadRead {
 
 pub enum DeclRead {
     Is(Decl, usize),
+    Wrong,
+}
+
+// ---- what the readers hand out (document 02, Card 6): no name that is a keyword of C++, yet the place behind it, so that the form is read on
+
+// Where a name stands: a name that is free, or a keyword.
+pub enum ScreenedName {
+    Free(Part),
+    Keyword,
+}
+
+// The same, where `-` may stand.
+pub enum ScreenedPart {
+    None,
+    Free(Part),
+    Keyword,
+}
+
+pub enum ScreenedNameRead {
+    Is(ScreenedName, usize),
+    Wrong,
+}
+
+pub enum ScreenedPartRead {
+    Is(ScreenedPart, usize),
+    Wrong,
+}
+
+// What is made of several lines: all its names are free, or one is a keyword.
+pub enum ScreenedDesc {
+    Is(FieldDesc, usize),
+    Keyword(usize),
+    Wrong,
+}
+
+pub enum ScreenedCond {
+    Is(Cond, usize),
+    Keyword(usize),
+    Wrong,
+}
+
+pub enum ScreenedField {
+    Is(Field, usize),
+    Keyword(usize),
+    Wrong,
+}
+
+pub enum ScreenedHead {
+    Is(Head, usize),
+    Keyword(usize),
+    Wrong,
+}
+
+// Beside the place: whether fields may follow, as behind a packet or a struct.
+pub enum ScreenedDecl {
+    Is(Decl, usize),
+    Keyword(usize, bool),
     Wrong,
 }

@@ -1,17 +1,20 @@
-// The lines `key=value` of the record (document 01, 'The record'): a key with its `=`, a value, and its newline. `-` is absent.
+// The lines `key=value` of the record (document 01, 'The record'): a key with its `=`, a value, and its newline. `-` is absent. A name is handed out
+// where it is no keyword (document 02, Card 6).
 
 use definitions::BitRead;
 use definitions::Found;
 use definitions::MaybeNumber;
 use definitions::MaybeNumberRead;
-use definitions::MaybePart;
-use definitions::MaybePartRead;
 use definitions::Modifier;
 use definitions::ModifierRead;
-use definitions::NameRead;
 use definitions::NumberRead;
+use definitions::ScreenedName;
+use definitions::ScreenedNameRead;
+use definitions::ScreenedPart;
+use definitions::ScreenedPartRead;
 ghost use mathlib.Core.Path.{_≡_};
 ghost use Rattle.definitions.specs.Record.{numberLine, nameLine, bitLine, maybeNumberLine, maybeNameLine, modifierAt, modifierLine};
+ghost use Rattle.keywords.specs.Screens.{screenName, screenPart};
 
 // `key=NUMBER`.
 pub fn number_line(rec: &[u8], at: usize, key: &[u8]) -> NumberRead
@@ -24,13 +27,13 @@ pub fn number_line(rec: &[u8], at: usize, key: &[u8]) -> NumberRead
 }
 
 // `key=NAME`.
-pub fn name_line(rec: &[u8], at: usize, key: &[u8]) -> NameRead
-    ensures { λ r. ⌜ r ≡ nameLine (now (rec .entry)) at (now (key .entry)) ⌝ }
+pub fn name_line(rec: &[u8], at: usize, key: &[u8]) -> ScreenedNameRead
+    ensures { λ r. ⌜ r ≡ screenName (now (rec .entry)) (nameLine (now (rec .entry)) at (now (key .entry))) ⌝ }
 {
     let Found::At(p) = names::key_at(rec, at, key) else {
-        return NameRead::Wrong;
+        return ScreenedNameRead::Wrong;
     };
-    names::name_at(rec, p)
+    keywords::name_at(rec, p)
 }
 
 // `key=0` or `key=1`.
@@ -66,19 +69,22 @@ pub fn maybe_number_line(rec: &[u8], at: usize, key: &[u8]) -> MaybeNumberRead
 }
 
 // `key=NAME` or `key=-`.
-pub fn maybe_name_line(rec: &[u8], at: usize, key: &[u8]) -> MaybePartRead
-    ensures { λ r. ⌜ r ≡ maybeNameLine (now (rec .entry)) at (now (key .entry)) ⌝ }
+pub fn maybe_name_line(rec: &[u8], at: usize, key: &[u8]) -> ScreenedPartRead
+    ensures { λ r. ⌜ r ≡ screenPart (now (rec .entry)) (maybeNameLine (now (rec .entry)) at (now (key .entry))) ⌝ }
 {
     let Found::At(p) = names::key_at(rec, at, key) else {
-        return MaybePartRead::Wrong;
+        return ScreenedPartRead::Wrong;
     };
     if let Found::At(q) = names::key_at(rec, p, b"-\n") {
-        return MaybePartRead::Is(MaybePart::None, q);
+        return ScreenedPartRead::Is(ScreenedPart::None, q);
     }
-    let NameRead::Is(n, q) = names::name_at(rec, p) else {
-        return MaybePartRead::Wrong;
+    let ScreenedNameRead::Is(name, q) = keywords::name_at(rec, p) else {
+        return ScreenedPartRead::Wrong;
     };
-    MaybePartRead::Is(MaybePart::Some(n), q)
+    match name {
+        ScreenedName::Free(n) => ScreenedPartRead::Is(ScreenedPart::Free(n), q),
+        ScreenedName::Keyword => ScreenedPartRead::Is(ScreenedPart::Keyword, q),
+    }
 }
 
 // `-`, or a sign and a number.

@@ -13,7 +13,9 @@ use Rattle.definitions.specs.Bytes.{Text, text}
 use Rattle.definitions.specs.Record.{keyOf, keyAt, onFound, Kinds, choose, descAt}
 use Rattle.definitions.specs.declared.Found.{Found}
 use Rattle.definitions.specs.declared.DescRead.{DescRead}
+use Rattle.definitions.specs.declared.ScreenedDesc.{ScreenedDesc}
 use Rattle.definitions.specs.declared.Part.{Part}
+use Rattle.keywords.specs.Screens.{screenDesc}
 use Rattle.kinds.specs.Words.{named, fromNumbers}
 use Rattle.kinds.specs.declared.Named.{Named}
 
@@ -72,17 +74,17 @@ module _ (s : Text) (at : ℕ) {f : Found} (ef : f ≡ keyAt s at (text "field="
   unfolding descAt prefixed
   by-words = choose-prefixed (text "field=") fromNumbers s (drop at s) at ∙ ap words (sym ef)
 
-  pub no-field : f ≡ Found.Nothing → DescRead.Wrong ≡ descAt s at
-  no-field h = sym (by-words ∙ ap words h)
+  pub no-field : f ≡ Found.Nothing → ScreenedDesc.Wrong ≡ screenDesc s (descAt s at)
+  no-field h = sym (ap (screenDesc s) (by-words ∙ ap words h))
 
-  pub by-word : {p : ℕ} → f ≡ Found.At p → {d : DescRead} → d ≡ choose fromNumbers s (drop p s) p → d ≡ descAt s at
+  pub by-word : {p : ℕ} → f ≡ Found.At p → {d : ScreenedDesc} → d ≡ screenDesc s (choose fromNumbers s (drop p s) p) → d ≡ screenDesc s (descAt s at)
   by-word {p} h e =
       e
-      ∙ ap (λ (r : Text). choose fromNumbers s r p)
+      ∙ ap (λ (r : Text). screenDesc s (choose fromNumbers s r p))
       (ap (λ (q : ℕ). drop q s) (key-end (text "field=") (drop at s) at p (sym ef ∙ h)) ∙ sym (drop-drop 6 at s))
-      ∙ sym (by-words ∙ ap words h)
+      ∙ sym (ap (screenDesc s) (by-words ∙ ap words h))
 
 -- the field of a kind with a name and a width
-pub named-is : {kind k : Named} (name : Part) (width p : ℕ) {d : DescRead}
-    → kind ≡ k → d ≡ DescRead.Is (named k name width) p → d ≡ DescRead.Is (named kind name width) p
-named-is name width p h e = e ∙ ap (λ (k : Named). DescRead.Is (named k name width) p) (sym h)
+pub named-is : {kind k : Named} (name : Part) (width p : ℕ) {d : ScreenedDesc}
+    → kind ≡ k → d ≡ ScreenedDesc.Is (named k name width) p → d ≡ ScreenedDesc.Is (named kind name width) p
+named-is name width p h e = e ∙ ap (λ (k : Named). ScreenedDesc.Is (named k name width) p) (sym h)

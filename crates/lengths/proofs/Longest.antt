@@ -4,7 +4,7 @@
 use mathlib.Core.Bool.{Bool, true, false, _||_}
 use mathlib.Core.List.{List, [], _∷_, _++_}
 use mathlib.Core.Path.{_≡_, refl, subst}
-use Prim.Native.Nat.{ℕ, _+_, _*_, _≤_, _<_}
+use Prim.Native.Nat.{ℕ, _+_, _*_, _≤_}
 use native.Mathlib.Nat.{mul-suc}
 use native.Mathlib.Omega.{arith}
 use lib.Dec.{ltb}
@@ -13,7 +13,7 @@ use borrow.Author.Tests.{ltb-false, le-leb}
 use Rattle.definitions.specs.Bytes.{Text, pick, any}
 use Rattle.definitions.specs.Record.{Declaration, RecordRead, recordIs, noRecord, readRecord}
 use Rattle.definitions.specs.Sizes.{Row, Schema, reference, anyReference, paddingBits, paddedBy, annotateDecl, annotateFrom, newSchema}
-use Rattle.definitions.specs.Refusals.{tooMany, duplicateName, unknownName, outOfRange, large, ragged, noTarget, badNumber, badDecl, isTarget, refuseIf, verdict}
+use Rattle.definitions.specs.Refusals.{keywordName, tooMany, duplicateName, unknownName, outOfRange, large, ragged, noTarget, badNumber, badDecl, isTarget, refuseIf, verdict}
 use Rattle.definitions.specs.Lines.{render}
 use Rattle.definitions.specs.Blocks.{Block, program}
 use Rattle.definitions.specs.FieldParser.{Outcome, refused, accepted}
@@ -28,7 +28,7 @@ use Rattle.definitions.specs.declared.Verdict.{Verdict}
 use Rattle.lengths.specs.Shares.{mostBytes, plainField, bitField, modifierLine, shape, paddedBytes, shareBy, shares, isElementSize, mostOf}
 use Rattle.lengths.proofs.Booleans.{impossible, neither, refuse-next}
 use Rattle.lengths.proofs.Names.{FieldsAre, DeclarationsAre, RecordOk, ShortName, names-short}
-use Rattle.lengths.proofs.Steps.{Below, OutcomeFits}
+use Rattle.lengths.proofs.Steps.{Not15, OutcomeFits}
 use Rattle.lengths.proofs.Fields.{AllPlain, lower-fits}
 
 -- ---- the shares of up to 64 fields
@@ -118,31 +118,33 @@ module _ (s : Text) (h : Head) where
       by a b j k true = j
       by a b j k false = k
 
-  -- ---- refusals 3 to 9
+  -- ---- refusals 16 and 3 to 9
 
   abbrev VerdictFits : Verdict → Type 0
-  VerdictFits (Verdict.Refuse why) = Below why
+  VerdictFits (Verdict.Refuse why) = Not15 why
   VerdictFits Verdict.Pass = Unit {0}
 
-  refuses-below : (b : Bool) (why : Refusal) (next : Verdict) → Below why → VerdictFits next → VerdictFits (refuseIf b why next)
-  refuses-below true why next j k = j
-  refuses-below false why next j k = k
+  refuses-not-15 : (b : Bool) (why : Refusal) (next : Verdict) → Not15 why → VerdictFits next → VerdictFits (refuseIf b why next)
+  refuses-not-15 true why next j k = j
+  refuses-not-15 false why next j k = k
 
   verdict-fits : (ds : List Declaration) (schema : Schema) → VerdictFits (verdict s h ds schema)
   unfolding verdict
   verdict-fits ds schema =
-      refuses-below (tooMany ds) Refusal.TooMany _ (omega arith)
-      (refuses-below (duplicateName s ds) Refusal.DuplicateName _ (omega arith)
-      (refuses-below (unknownName s ds) Refusal.UnknownName _ (omega arith)
-      (refuses-below (outOfRange ds) Refusal.OutOfRange _ (omega arith)
-      (refuses-below (large schema) Refusal.TooLarge _ (omega arith)
-      (refuses-below (ragged s schema) Refusal.NotWholeBytes _ (omega arith)
-      (refuses-below (noTarget s h schema) Refusal.NoTarget Verdict.Pass (omega arith) tt))))))
+      refuses-not-15 (keywordName s h ds) Refusal.Keyword _ (omega arith)
+      (refuses-not-15 (tooMany ds) Refusal.TooMany _ (omega arith)
+      (refuses-not-15 (duplicateName s ds) Refusal.DuplicateName _ (omega arith)
+      (refuses-not-15 (unknownName s ds) Refusal.UnknownName _ (omega arith)
+      (refuses-not-15 (outOfRange ds) Refusal.OutOfRange _ (omega arith)
+      (refuses-not-15 (large schema) Refusal.TooLarge _ (omega arith)
+      (refuses-not-15 (ragged s schema) Refusal.NotWholeBytes _ (omega arith)
+      (refuses-not-15 (noTarget s h schema) Refusal.NoTarget Verdict.Pass (omega arith) tt)))))))
 
   passes : (ds : List Declaration) (schema : Schema) → verdict s h ds schema ≡ Verdict.Pass → (tooMany ds ≡ false) × (outOfRange ds ≡ false)
   unfolding verdict
   passes ds schema e =
-      let few = refuse-next (tooMany ds) Refusal.TooMany _ e in
+      let free = refuse-next (keywordName s h ds) Refusal.Keyword _ e in
+      let few = refuse-next (tooMany ds) Refusal.TooMany _ (free .1) in
       let two = refuse-next (duplicateName s ds) Refusal.DuplicateName _ (few .1) in
       let unknown = refuse-next (unknownName s ds) Refusal.UnknownName _ (two .1) in
       let range = refuse-next (outOfRange ds) Refusal.OutOfRange _ (unknown .1) in
@@ -178,10 +180,10 @@ pub longest : (s : Text) (bs : List Block) → answer s ≡ accepted bs → leng
 longest s bs e = subst (OutcomeFits mostBytes) e (fits s)
 
 -- 15 is never answered where the buffer has that many bytes
-pub enough : (s : Text) (room : ℕ) → mostBytes ≤ room → lower s room .answered < 15
+pub enough : (s : Text) (room : ℕ) → mostBytes ≤ room → lower s room .answered ≡ 15 → ⊥
 unfolding lowered fitted
 enough s room h = by (answer s) (fits s)
   where
-    by : (o : Outcome) → OutcomeFits mostBytes o → lowered room o .answered < 15
+    by : (o : Outcome) → OutcomeFits mostBytes o → lowered room o .answered ≡ 15 → ⊥
     by (refused why) k = k
     by (accepted bs) k = rw (fitted, le-leb (length (render (program bs))) room (omega (arith, h, k))) (omega arith)

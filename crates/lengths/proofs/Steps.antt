@@ -39,8 +39,8 @@ wider w h = record { before = λ l. omega (arith, w .before l, h) }
 -- ---- the parser's state
 
 -- no refusal is 15
-abbrev pub Below : Refusal → Type 0
-Below why = number why < 15
+abbrev pub Not15 : Refusal → Type 0
+Not15 why = number why ≡ 15 → ⊥
 
 pub record Holds (n : ℕ) (p : FieldParser) : Type 0 where
   pub used : ℕ
@@ -52,16 +52,16 @@ pub record Holds (n : ℕ) (p : FieldParser) : Type 0 where
 
 abbrev pub StepFits : ℕ → Step → Type 0
 StepFits n (go p) = Holds n p
-StepFits n (stop why) = Below why
+StepFits n (stop why) = Not15 why
 
 abbrev pub OutcomeFits : ℕ → Outcome → Type 0
-OutcomeFits n (refused why) = Below why
+OutcomeFits n (refused why) = Not15 why
 OutcomeFits n (accepted bs) = length (render (program bs)) ≤ n
 
 abbrev pub EmitFits : ℕ → Emit → Type 0
 EmitFits n (appends b) = Within n b
 EmitFits n silent = Unit {0}
-EmitFits n (refuses why) = Below why
+EmitFits n (refuses why) = Not15 why
 
 pub then-fits : (m n : ℕ) (s : Step) (f : FieldParser → Step) → StepFits m s → ((q : FieldParser) → Holds m q → StepFits n (f q)) → StepFits n (andThen s f)
 then-fits m n (go p) f h k = k p h

@@ -80,7 +80,7 @@ pub record Read (s out : Text) (r : ℕ) (left : Text) : Type 0 where
   pub answer-is : r / 2 ^ 32 ≡ lower s (length out) .answered
   pub length-is : r % 2 ^ 32 ≡ length (lower s (length out) .lines)
   pub refused-unchanged : 2 ^ 32 ≤ r → left ≡ out
-  pub never-15 : mostBytes ≤ length out → r / 2 ^ 32 < 15
+  pub never-15 : mostBytes ≤ length out → r / 2 ^ 32 ≡ 15 → ⊥
 
 pub reads : (s out : Text) (r : ℕ) (left : Text)
     → r ≡ word (lower s (length out)) → left ≡ bufferAfter (lower s (length out)) out
@@ -92,11 +92,11 @@ reads s out r left number buffer = by (shape (length out) (answer s) (fits s))
       answer-is = omega (arith, number, e, h);
       length-is = omega (arith, number, e, h);
       refused-unchanged = λ w. absurd (omega (arith, number, e, h, w));
-      never-15 = λ w. omega (arith, number, e, h);
+      never-15 = λ w g. omega (arith, number, e, h, g);
     }
     by (Shape.none e) = record {
       answer-is = omega (arith, number, ap length e);
       length-is = omega (arith, number, ap length e);
       refused-unchanged = λ w. buffer ∙ ap (λ (t : Text). t ++ drop (length t) out) e;
-      never-15 = λ w. omega (arith, number, ap length e, enough s (length out) w);
+      never-15 = λ w g. enough s (length out) w (omega (arith, number, ap length e, g));
     }

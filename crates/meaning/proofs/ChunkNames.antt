@@ -1,5 +1,5 @@
 -- No name of an accepted record is `chunk` with a number, and no other variable of a bit field is: so nothing sets `chunk0`, `chunk1` and so on
--- but their own lines. From the record reader, name by name.
+-- but their own lines. And no name has a `>`. From the record reader, name by name.
 -- Assumes nothing.
 use mathlib.Core.Path.{_≡_, refl, sym, ap, _∙_, subst}
 use mathlib.Core.Bool.{Bool, true, false, _&&_, _||_}
@@ -10,7 +10,7 @@ use lib.Dec.{ltb, eqb}
 use lib.ListN.{length, take, drop}
 use lib.Seq.{drop-drop, take-at}
 use borrow.Author.Tests.{eqb-true, ltb-true, le-leb, lt-ltb, ne-eqb}
-use Rattle.definitions.specs.Bytes.{Text, text, part, isDigit, isWord, digit, digitsIn, decimal}
+use Rattle.definitions.specs.Bytes.{Text, text, any, part, isDigit, isWord, digit, digitsIn, decimal}
 use Rattle.definitions.specs.Record.{keyOf, keyAt, partOf, wordOf, nameOf, isFound, digitsLine, someDigits, digitsBehind, isForbidden, nameAt, Declaration, RecordRead, readRecord}
 use Rattle.definitions.specs.Blocks.{raw, chunkName}
 use Rattle.definitions.specs.declared.Part.{Part}
@@ -18,6 +18,7 @@ use Rattle.definitions.specs.declared.FieldDesc.{FieldDesc}
 use Rattle.definitions.specs.declared.Field.{Field}
 use Rattle.definitions.specs.declared.Found.{Found}
 use Rattle.definitions.specs.declared.NameRead.{NameRead}
+use Rattle.lengths.proofs.Booleans.{impossible}
 use Rattle.lengths.proofs.Names.{NameIs, DescIs, FieldsAre, DeclarationsAre, RecordOk, record-ok}
 use Rattle.meaning.specs.Machine.{}
 use Rattle.meaning.proofs.Wellformed.{Apart}
@@ -74,7 +75,7 @@ digits-ended (suc f) n = by (digits-ended f (n / 10)) (ltb n 10) refl
           digit = digit-low n;
         }
 
-decimal-ended : (n : ℕ) → Ended (decimal n)
+pub decimal-ended : (n : ℕ) → Ended (decimal n)
 decimal-ended n = digits-ended 63 n
 
 -- ---- a text that ends in no digit
@@ -125,27 +126,34 @@ pub record Word (r : Text) (start at : ℕ) (n : Part) : Type 0 where
   pub rest : Text
   pub are : r ≡ word ++ (10 ∷ rest)
   pub place : n ≡ partOf start (at + length word)
+  -- it has no `>`
+  pub arrowless : any (eqb 62) word ≡ false
 
 abbrev WordOf : Text → ℕ → ℕ → NameRead → Type 0
 WordOf r start at NameRead.Wrong = Unit {0}
 WordOf r start at (NameRead.Is n p) = Word r start at n
 
+word-byte : (x : ℕ) → isWord x ≡ true → eqb 62 x ≡ false
+unfolding isWord isDigit
+word-byte x e = ne-eqb 62 x (λ f. let g : isWord 62 ≡ true = ap isWord f ∙ e in impossible (cc))
+
 word-is : (r : Text) (start k at : ℕ) → WordOf r start at (wordOf r start k at)
 unfolding wordOf
 word-is [] start k at = tt
-word-is (x ∷ r) start k at = by (word-is r start (k + 1) (at + 1)) (eqb x 10) refl (eqb k 32) (isWord x)
+word-is (x ∷ r) start k at = by (word-is r start (k + 1) (at + 1)) (eqb x 10) refl (eqb k 32) (isWord x) refl
   where
-    more : (q : NameRead) → WordOf r start (at + 1) q → WordOf (x ∷ r) start at q
-    more NameRead.Wrong h = tt
-    more (NameRead.Is n p) h =
+    more : isWord x ≡ true → (q : NameRead) → WordOf r start (at + 1) q → WordOf (x ∷ r) start at q
+    more f NameRead.Wrong h = tt
+    more f (NameRead.Is n p) h =
         record {
           word = x ∷ h .word;
           rest = h .rest;
           are = ap (λ (t : Text). x ∷ t) (h .are);
           place = h .place ∙ ap (partOf start) (omega arith);
+          arrowless = ap (λ (b : Bool). b || any (eqb 62) (h .word)) (word-byte x f) ∙ h .arrowless;
         }
 
-    by : WordOf r start (at + 1) (wordOf r start (k + 1) (at + 1)) → (b : Bool) → eqb x 10 ≡ b → (c d : Bool)
+    by : WordOf r start (at + 1) (wordOf r start (k + 1) (at + 1)) → (b : Bool) → eqb x 10 ≡ b → (c d : Bool) → isWord x ≡ d
         → WordOf (x ∷ r) start at (elim b [
           | true ↦ NameRead.Is (partOf start at) (at + 1)
           | false ↦ elim c [
@@ -153,11 +161,11 @@ word-is (x ∷ r) start k at = by (word-is r start (k + 1) (at + 1)) (eqb x 10) 
             | false ↦ elim d [ true ↦ wordOf r start (k + 1) (at + 1) | false ↦ NameRead.Wrong ]
           ]
         ])
-    by h true e c d =
-        record { word = []; rest = r; are = ap (λ (y : ℕ). y ∷ r) (eqb-true x 10 e); place = ap (partOf start) (omega arith) }
-    by h false e true d = tt
-    by h false e false true = more (wordOf r start (k + 1) (at + 1)) h
-    by h false e false false = tt
+    by h true e c d f =
+        record { word = []; rest = r; are = ap (λ (y : ℕ). y ∷ r) (eqb-true x 10 e); place = ap (partOf start) (omega arith); arrowless = refl }
+    by h false e true d f = tt
+    by h false e false true f = more f (wordOf r start (k + 1) (at + 1)) h
+    by h false e false false f = tt
 
 or-true : (a b : Bool) → b ≡ true → (a || b) ≡ true
 or-true true b e = refl
@@ -192,6 +200,14 @@ name-word (x ∷ r) at = by (isDigit x) (eqb x 10)
     by false true = tt
     by false false = word-is (x ∷ r) at 0 at
 
+part-word : (s : Text) (at : ℕ) (n : Part) (w : Word (drop at s) at at n) → part s n ≡ w .word
+part-word s at n w =
+    let m : (at + length (w .word)) - at ≡ length (w .word) = omega arith in
+    ap (part s) (w .place)
+    ∙ ap (λ (k : ℕ). take k (drop at s)) m
+    ∙ ap (take (length (w .word))) (w .are)
+    ∙ take-at (w .word) (10 ∷ w .rest) (length (w .word)) refl
+
 name-free : (s : Text) (at : ℕ) → NameIs (FreeName s) (nameAt s at)
 unfolding nameAt
 name-free s at = by (isForbidden s at) refl
@@ -199,12 +215,7 @@ name-free s at = by (isForbidden s at) refl
     word : (q : NameRead) → isForbidden s at ≡ false → WordOf (drop at s) at at q → NameIs (FreeName s) q
     word NameRead.Wrong e w = tt
     word (NameRead.Is n p) e w =
-        let m : (at + length (w .word)) - at ≡ length (w .word) = omega arith in
-        let f : part s n ≡ w .word =
-        ap (part s) (w .place)
-        ∙ ap (λ (k : ℕ). take k (drop at s)) m
-        ∙ ap (take (length (w .word))) (w .are)
-        ∙ take-at (w .word) (10 ∷ w .rest) (length (w .word)) refl in
+        let f : part s n ≡ w .word = part-word s at n w in
         λ nr.
         apart-by (part s n) (chunkName nr)
         (λ g.
@@ -216,6 +227,22 @@ name-free s at = by (isForbidden s at) refl
     by : (b : Bool) → isForbidden s at ≡ b → NameIs (FreeName s) (elim b [ true ↦ NameRead.Wrong | false ↦ nameOf (drop at s) at ])
     by true e = tt
     by false e = word (nameOf (drop at s) at) e (name-word (drop at s) at)
+
+-- no name has a `>`
+abbrev pub Arrowless : Text → Part → Type 0
+Arrowless s n = any (eqb 62) (part s n) ≡ false
+
+name-arrowless : (s : Text) (at : ℕ) → NameIs (Arrowless s) (nameAt s at)
+unfolding nameAt
+name-arrowless s at = by (isForbidden s at)
+  where
+    word : (q : NameRead) → WordOf (drop at s) at at q → NameIs (Arrowless s) q
+    word NameRead.Wrong w = tt
+    word (NameRead.Is n p) w = ap (any (eqb 62)) (part-word s at n w) ∙ w .arrowless
+
+    by : (b : Bool) → NameIs (Arrowless s) (elim b [ true ↦ NameRead.Wrong | false ↦ nameOf (drop at s) at ])
+    by true = tt
+    by false = word (nameOf (drop at s) at) (name-word (drop at s) at)
 
 -- ---- every name of a record that can be read
 
@@ -233,3 +260,6 @@ RecordFree s r = RecordOk (FreeName s) r
 
 pub record-free : (s : Text) → RecordFree s (readRecord s)
 record-free s = record-ok (FreeName s) s (name-free s)
+
+pub record-arrowless : (s : Text) → RecordOk (Arrowless s) (readRecord s)
+record-arrowless s = record-ok (Arrowless s) s (name-arrowless s)

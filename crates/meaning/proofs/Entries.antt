@@ -1,5 +1,5 @@
--- What an accepted record's target has: its entry of the tables, whose names were found, whose arrays have whole elements, and whose bit fields have the
--- widths that the record declares. From refusals 3 to 9, entry by entry.
+-- What an accepted record's target has: its entry of the tables, whose names were found and are no keywords, whose arrays have whole elements, and whose
+-- bit fields have the widths that the record declares. From refusals 16 and 3 to 9, entry by entry.
 -- Assumes nothing.
 use mathlib.Core.Bool.{Bool, true, false}
 use mathlib.Core.List.{List, [], _∷_, _++_}
@@ -11,7 +11,7 @@ use borrow.Author.Tests.{not-false}
 use Rattle.definitions.specs.Bytes.{Text, any}
 use Rattle.definitions.specs.Record.{Declaration, RecordRead, recordIs, noRecord, readRecord}
 use Rattle.definitions.specs.Sizes.{Schema, Entry, Row, Annotated, totalSize, lookup, sameName, totalOf, descSize, annotateFields, rowOf, annotateDecl, annotateFrom, newSchema, parentId, descEnum, enumOf, isEnum, isBitfield, staticWidth}
-use Rattle.definitions.specs.Refusals.{find, isFrame, isEnumDesc, lacks, badName, badType, badNames, unknownFrom, unknownName, verdict, tooMany, duplicateName, outOfRange, large, raggedField, ragged, isTarget}
+use Rattle.definitions.specs.Refusals.{find, isFrame, isEnumDesc, lacks, badName, badType, badNames, unknownFrom, unknownName, verdict, keywordName, tooMany, duplicateName, outOfRange, large, raggedField, ragged, isTarget}
 use Rattle.definitions.specs.FieldParser.{isBit, Setting, Outcome, refused, accepted}
 use Rattle.definitions.specs.Answer.{settingOf, lowerTarget, lowerIn, lowerRecord, answerRead, wrongLength, answer}
 use Rattle.definitions.specs.Blocks.{Block}
@@ -27,9 +27,11 @@ use Rattle.definitions.specs.declared.Size.{Size}
 use Rattle.definitions.specs.declared.Refusal.{Refusal}
 use Rattle.definitions.specs.declared.Verdict.{Verdict}
 use Rattle.lengths.proofs.Booleans.{impossible, neither, refuse-next}
+use Rattle.lengths.proofs.Names.{FieldIs, FieldsAre, DeclarationsAre, RecordOk}
 use Rattle.meaning.specs.Rule.{enumWidth, declaredWidth, widthOf}
 use Rattle.meaning.specs.Runs.{Target, firstTarget, targetIn, targetOf}
-use Rattle.meaning.proofs.ChunkNames.{DescFree, FieldsFree, DeclarationsFree, RecordFree, record-free}
+use Rattle.meaning.proofs.ChunkNames.{DescFree, FieldsFree, DeclarationsFree, RecordFree, record-free, Arrowless, record-arrowless}
+use Rattle.meaning.proofs.Keywords.{Usable, all-usable}
 
 -- ---- tests over lists
 
@@ -122,6 +124,8 @@ pub record Fits (c : Setting) (a : Annotated) : Type 0 where
   pub whole : raggedField (c .source) (c .scope) (a .field) ≡ false
   -- its name is no `chunk` with a number
   pub free : DescFree (c .source) (a .field .desc)
+  -- none of its names is a keyword
+  pub usable : FieldIs (Usable (c .source)) (a .field)
   -- a bit field has its declared width
   pub wide : isBit c (a .field) ≡ true → staticWidth (a .fieldSize) ≡ widthOf c (a .field)
 
@@ -182,11 +186,11 @@ module _ (c : Setting) (earlier : List Declaration) (rows : Rows earlier (c .sco
       enum-width type (lookup (c .source) (c .scope) type) refl (lookup-ok (c .source) (c .scope) type ok) b
 
   fields-fit : (fs xs : List Field) → NoneOf (raggedField (c .source) (c .scope)) xs → NoneOf (λ (f : Field). badType (c .source) earlier (f .desc)) xs
-      → FieldsFree (c .source) xs → AllFit c (annotateFields (c .source) (c .scope) fs xs)
+      → FieldsFree (c .source) xs → FieldsAre (Usable (c .source)) xs → AllFit c (annotateFields (c .source) (c .scope) fs xs)
   unfolding annotateFields isBit
-  fields-fit fs [] r b f = tt
-  fields-fit fs (x ∷ xs) r b f =
-      (record { whole = r .0; free = f .0 .0; wide = by (x .cond) }, fields-fit fs xs (r .1) (b .1) (f .1))
+  fields-fit fs [] r b f u = tt
+  fields-fit fs (x ∷ xs) r b f u =
+      (record { whole = r .0; free = f .0 .0; usable = u .0; wide = by (x .cond) }, fields-fit fs xs (r .1) (b .1) (f .1) (u .1))
     where
       by : (k : Cond)
           → elim k as (λ _. Bool) [ Cond.None ↦ isBitfield (c .source) (c .scope) (x .desc) | Cond.Some id value ↦ false ] ≡ true
@@ -216,12 +220,12 @@ EntriesOk s h [] = Unit {0}
 EntriesOk s h (e ∷ es) = EntryOk s h e × EntriesOk s h es
 
 entries-ok : (s : Text) (h : Head) (earlier : List Declaration) (rows : List Row) (ds : List Declaration) → Rows earlier rows → RowsOk rows
-    → unknownFrom s earlier ds ≡ false → DeclarationsFree s ds
+    → unknownFrom s earlier ds ≡ false → DeclarationsFree s ds → DeclarationsAre (Usable s) ds
     → NoneOf (λ (e : Entry). any (raggedField s (e .earlier)) (e .declaration .fields)) (annotateFrom s rows ds)
     → EntriesOk s h (annotateFrom s rows ds)
 unfolding annotateFrom unknownFrom
-entries-ok s h earlier rows [] are ok u free r = tt
-entries-ok s h earlier rows (d ∷ ds) are ok u free r =
+entries-ok s h earlier rows [] are ok u free usable r = tt
+entries-ok s h earlier rows (d ∷ ds) are ok u free usable r =
     let bad : badNames s earlier d ≡ false = neither (badNames s earlier d) (unknownFrom s (earlier ++ (d ∷ [])) ds) u .0 in
     let types : NoneOf (λ (x : Field). badType s earlier (x .desc)) (d .fields) =
     none-of (λ (x : Field). badType s earlier (x .desc)) (d .fields)
@@ -230,13 +234,13 @@ entries-ok s h earlier rows (d ∷ ds) are ok u free r =
         rows = ok;
         fit =
             fields-fit (settingOf s h (annotateDecl s rows d)) earlier are ok (d .fields) (d .fields)
-            (none-of (raggedField s rows) (d .fields) (r .0)) types (free .0);
+            (none-of (raggedField s rows) (d .fields) (r .0)) types (free .0) (usable .0);
         fields-are = annotated-plain s rows (d .fields) (d .fields);
       },
       entries-ok s h (earlier ++ (d ∷ [])) (rows ++ (annotateDecl s rows d .row ∷ [])) ds
           (rows-more earlier rows d (annotateDecl s rows d .row) are refl)
           (rows-snoc rows (annotateDecl s rows d .row) ok (row-ok s rows (d .decl) (annotateFields s rows (d .fields) (d .fields))))
-          (neither (badNames s earlier d) (unknownFrom s (earlier ++ (d ∷ [])) ds) u .1) (free .1) (r .1),
+          (neither (badNames s earlier d) (unknownFrom s (earlier ++ (d ∷ [])) ds) u .1) (free .1) (usable .1) (r .1),
     )
 
 -- ---- the answer
@@ -247,18 +251,19 @@ pub record Grounds (s : Text) (bs : List Block) (t : Target) : Type 0 where
   pub is-target : targetOf s ≡ some t
   pub ok : EntryOk s (t .head) (t .entry)
 
--- none of 3 to 9 is met
+-- none of 16 and 3 to 9 is met
 module _ (s : Text) (h : Head) (ds : List Declaration) (schema : Schema) where
-  passes-tests : verdict s h ds schema ≡ Verdict.Pass → (unknownName s ds ≡ false) × (ragged s schema ≡ false)
+  pub passes-tests : verdict s h ds schema ≡ Verdict.Pass → (keywordName s h ds ≡ false) × (unknownName s ds ≡ false) × (ragged s schema ≡ false)
   unfolding verdict
   passes-tests e =
-      let many = refuse-next (tooMany ds) Refusal.TooMany _ e in
+      let free = refuse-next (keywordName s h ds) Refusal.Keyword _ e in
+      let many = refuse-next (tooMany ds) Refusal.TooMany _ (free .1) in
       let two = refuse-next (duplicateName s ds) Refusal.DuplicateName _ (many .1) in
       let unknown = refuse-next (unknownName s ds) Refusal.UnknownName _ (two .1) in
       let range = refuse-next (outOfRange ds) Refusal.OutOfRange _ (unknown .1) in
       let size = refuse-next (large schema) Refusal.TooLarge _ (range .1) in
       let whole = refuse-next (ragged s schema) Refusal.NotWholeBytes _ (size .1) in
-      (unknown .0, whole .0)
+      (free .0, unknown .0, whole .0)
 
 -- the target is the first entry that is asked for
 first-lowered : (s : Text) (h : Head) (bs : List Block) (es : Schema) → EntriesOk s h es → lowerIn s h es ≡ accepted bs
@@ -281,27 +286,28 @@ pub has-grounds : (s : Text) (bs : List Block) → answer s ≡ accepted bs → 
 unfolding answer lowerRecord ragged
 has-grounds s bs = by (wrongLength s)
   where
-    tested : (h : Head) (ds : List Declaration) → readRecord s ≡ recordIs h ds → DeclarationsFree s ds → (v : Verdict) → verdict s h ds (newSchema s ds) ≡ v
+    tested : (h : Head) (ds : List Declaration) → readRecord s ≡ recordIs h ds → DeclarationsFree s ds → DeclarationsAre (Arrowless s) ds
+        → (v : Verdict) → verdict s h ds (newSchema s ds) ≡ v
         → (elim v as (λ _. Outcome) [ Verdict.Pass ↦ lowerIn s h (newSchema s ds) | Verdict.Refuse why ↦ refused why ]) ≡ accepted bs
         → (t : Target) × Grounds s bs t
-    tested h ds e free (Verdict.Refuse why) g f = impossible (cc)
-    tested h ds e free Verdict.Pass g f =
+    tested h ds e free bare (Verdict.Refuse why) g f = impossible (cc)
+    tested h ds e free bare Verdict.Pass g f =
         let p = passes-tests s h ds (newSchema s ds) g in
         let t =
         first-lowered s h bs (newSchema s ds)
-        (entries-ok s h [] [] ds tt tt (p .0) free
-        (none-of (λ (x : Entry). any (raggedField s (x .earlier)) (x .declaration .fields)) (newSchema s ds) (p .1)))
+        (entries-ok s h [] [] ds tt tt (p .1) free (all-usable s h ds (p .0) bare)
+        (none-of (λ (x : Entry). any (raggedField s (x .earlier)) (x .declaration .fields)) (newSchema s ds) (p .2)))
         f in
         (t .0, record { lowers = t .2; is-target = ap (targetIn s) e ∙ t .1; ok = t .3 })
 
-    read : (r : RecordRead) → readRecord s ≡ r → RecordFree s r → answerRead s r ≡ accepted bs → (t : Target) × Grounds s bs t
-    read noRecord e free f = impossible (cc)
-    read (recordIs h ds) e free f = tested h ds e free (verdict s h ds (newSchema s ds)) refl f
+    read : (r : RecordRead) → readRecord s ≡ r → RecordFree s r → RecordOk (Arrowless s) r → answerRead s r ≡ accepted bs → (t : Target) × Grounds s bs t
+    read noRecord e free bare f = impossible (cc)
+    read (recordIs h ds) e free bare f = tested h ds e free bare (verdict s h ds (newSchema s ds)) refl f
 
     by : (b : Bool) → (elim b as (λ _. Outcome) [ true ↦ refused Refusal.RecordLength | false ↦ answerRead s (readRecord s) ]) ≡ accepted bs
         → (t : Target) × Grounds s bs t
     by true f = impossible (cc)
-    by false f = read (readRecord s) refl (record-free s) f
+    by false f = read (readRecord s) refl (record-free s) (record-arrowless s) f
 
 -- there is one target
 pub grounds : (s : Text) (bs : List Block) → answer s ≡ accepted bs → (t : Target) → targetOf s ≡ some t → Grounds s bs t

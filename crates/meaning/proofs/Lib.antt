@@ -6,11 +6,14 @@ pub mod Outside
 pub mod Backing
 pub mod Printed
 pub mod Listed
+pub mod Identifiers
+pub mod Unreserved
 pub mod Reaching
 pub mod Located
 pub mod Grouped
 pub mod Accepted
 pub mod Entries
+pub mod Keywords
 pub mod ChunkNames
 pub mod Values
 pub mod FieldBits

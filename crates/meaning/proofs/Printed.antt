@@ -18,6 +18,7 @@ use Rattle.definitions.specs.declared.Refusal.{Refusal}
 never-zero : (why : Refusal) → number why ≡ 0 → ⊥
 never-zero Refusal.RecordLength e = omega arith
 never-zero Refusal.RecordForm e = omega arith
+never-zero Refusal.Keyword e = omega arith
 never-zero Refusal.TooMany e = omega arith
 never-zero Refusal.DuplicateName e = omega arith
 never-zero Refusal.UnknownName e = omega arith

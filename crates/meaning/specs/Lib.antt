@@ -5,3 +5,4 @@ pub mod Places
 pub mod Written
 pub mod Plain
 pub mod Outside
+pub mod Identifiers

@@ -194,7 +194,7 @@ fn name_of(rec: &[u8], at: usize) -> NameRead
     NameRead::Wrong
 }
 
-// A name at a place, with its newline.
+// A name at a place, with its newline, by the form alone: it may be a keyword of C++.
 pub fn name_at(rec: &[u8], at: usize) -> NameRead
     ensures { λ r. ⌜ r ≡ nameAt (now (rec .entry)) at ⌝ }
 {

@@ -3,7 +3,7 @@
 use Prim.Native.Nat.{ℕ, suc, _+_, _*_, _-_, _^_, _≤_, _<_}
 use mathlib.Core.Bool.{Bool, true, false}
 use mathlib.Core.List.{[], _∷_}
-use mathlib.Core.Path.{_≡_, refl, sym, _∙_, subst}
+use mathlib.Core.Path.{_≡_, refl, subst}
 use native.Mathlib.Omega.{arith}
 use lib.Dec.{ltb, eqb}
 use lib.ListN.{length, drop, length-drop}
@@ -480,10 +480,6 @@ module _ (s : Text) where
 
   pub field-ends : (at : ℕ) (x : Field) (q : ℕ) → fieldAt s at ≡ FieldRead.Is x q → Ends (at + 16) (length s) q
   field-ends at x q e = subst (FieldEnds (at + 16) (length s)) e (field-read at)
-
-  -- so its place fits the table of places
-  pub place-fits : (at : ℕ) {r : FieldRead} → r ≡ fieldAt s at → (x : Field) (q : ℕ) → r ≡ FieldRead.Is x q → length s ≤ 16384 → at < 2 ^ 16
-  place-fits at h x q e l = let z : Ends (at + 16) (length s) q = field-ends at x q (sym h ∙ e) in omega (arith, z .least, z .most, l)
 
   -- ---- a declaration: its `decl` line with 10 bytes or more, and its name
 

@@ -1,26 +1,33 @@
--- The tables that the reader left give the declarations of the record back (`declarationsFrom` of `tablesFrom`).
+-- The tables that the reader left give the declarations of the record back (`declarationsFrom` of `tablesFrom`), where no name is a keyword.
 -- Assumes nothing.
 use Prim.Native.Nat.{ℕ, zero, suc, _+_, _*_, _-_, _/_, _≤_, _<_}
 use mathlib.Core.Bool.{Bool, true, false}
 use mathlib.Core.List.{List, [], _∷_, _++_, append-assoc}
 use mathlib.Core.Path.{_≡_, refl, sym, ap, _∙_, subst}
+use native.Mathlib.Nat.{zero-add}
 use native.Mathlib.Numerals.{add-one}
 use native.Mathlib.Omega.{arith}
 use lib.Dec.{ltb}
 use lib.ListN.{length, getD, take, drop, set}
 use lib.Seq.{sets, sets-eq, length-sets, take-set-le, take-add, drop-cons, drop-at, take-at, length-take-le}
-use Rattle.definitions.specs.Bytes.{Text}
+use Rattle.definitions.specs.Bytes.{Text, pick}
 use Rattle.definitions.specs.Record.{declAt, fieldsBehind, declarationsAt, onDecl, onFields, Fields, fieldsAre, noFields, Declaration, Declarations, declarationsAre, noDeclarations, withDeclaration}
+use Rattle.definitions.specs.Refusals.{anyKeyword, declNames, fieldsNames, declarationsNames, isFrame}
 use Rattle.definitions.specs.declared.Field.{Field}
 use Rattle.definitions.specs.declared.Decl.{Decl}
 use Rattle.definitions.specs.declared.DeclRead.{DeclRead}
+use Rattle.definitions.specs.declared.ScreenedDecl.{ScreenedDecl}
+use Rattle.keywords.specs.Screens.{screenDecl}
+use Rattle.keywords.proofs.Names.{keyword-neither}
 use Rattle.tables.specs.Words.{fieldWords, declWords}
 use Rattle.tables.specs.Tables.{Tables, declHere, countHere, fieldHere, fieldsFrom, declarationIn, declarationsFrom}
 use Rattle.tables.proofs.Entries.{field-same, decl-same}
 use Rattle.tables.proofs.Again.{getD-before, here-again, decl-again, count-again}
-use Rattle.places.specs.Places.{fieldKeys, withValues, withRow, given, withDecl, withFields, tablesFrom, upToBehind}
+use Rattle.places.specs.declared.FieldsRead.{FieldsRead}
+use Rattle.places.specs.Places.{fieldKeys, withValues, withRow, given, withDecl, withFields, screenFields, declRead, tablesWith, tablesFrom, upToBehind}
 use Rattle.places.proofs.Ends.{Ends, decl-ends}
-use Rattle.places.proofs.Filling.{length-values}
+use Rattle.places.proofs.Screened.{declOn, decl-read}
+use Rattle.places.proofs.Filling.{length-values, tailTables}
 use Rattle.places.proofs.Keys.{Apart, apart-from, Follow, behind-follow}
 
 -- ---- what the tables hold
@@ -62,57 +69,88 @@ hold-more s t i at d xs ys q ds u e a h = record {
   spaced = Spaced.more q a (h .spaced);
 }
 
+-- one declaration in front of the others
+module _ (s : Text) (fuel i at : ℕ) (t : Tables) {d : Decl} {p : ℕ} (ed : declAt s at ≡ DeclRead.Is d p) {xs : List Field} {q : ℕ}
+    (ef : fieldsBehind s (d .desc) p ≡ fieldsAre xs q) (own : anyKeyword s (declNames d) ≡ false) (theirs : anyKeyword s (fieldsNames xs) ≡ false) where
+  decl-free : screenDecl s (declAt s at) ≡ ScreenedDecl.Is d p
+  decl-free = ap (screenDecl s) ed ∙ ap (λ (k : Bool). pick k (ScreenedDecl.Keyword p (isFrame (d .desc))) (ScreenedDecl.Is d p)) own
+
+  fields-free : screenFields s false 0 (fieldsBehind s (d .desc) p) ≡ FieldsRead.Is (length xs) q
+  fields-free =
+      ap (screenFields s false 0) ef ∙ ap (λ (k : Bool). pick k (FieldsRead.Keyword q) (FieldsRead.Is (0 + length xs) q)) theirs
+      ∙ ap (λ (n : ℕ). FieldsRead.Is n q) (zero-add (length xs))
+
+  one-read : declRead s false at ≡ FieldsRead.Is (length xs) q
+  one-read = decl-read s false at ∙ ap (declOn s false) decl-free ∙ fields-free
+
+  one-written : tablesWith s i at t ≡ withDecl (withFields t i (upToBehind s (d .desc) p)) i d (length xs)
+  unfolding tablesWith
+  one-written = rw (tablesWith, decl-free, fields-free)
+
+  then-others : tablesFrom s (suc fuel) i at t
+      ≡ tailTables s fuel (i + 1) (withDecl (withFields t i (upToBehind s (d .desc) p)) i d (length xs)) q
+  unfolding tablesFrom
+  then-others = rw (tablesFrom, one-read) (ap (λ (u : Tables). tailTables s fuel (i + 1) u q) one-written)
+
 tables-hold : (s : Text) (fuel i at : ℕ) (t : Tables) (ds : List Declaration) → declarationsAt s fuel at ≡ declarationsAre ds
-    → Hold s t i at ds (tablesFrom s fuel i at t)
-unfolding declarationsAt tablesFrom
-tables-hold s zero i at t ds e = absurd (let v : _≡_ {A = ℕ} 0 1 = cc in omega arith)
-tables-hold s (suc fuel) i at t ds e = by (declAt s at) refl e (tables-hold s fuel)
+    → anyKeyword s (declarationsNames ds) ≡ false → Hold s t i at ds (tablesFrom s fuel i at t)
+unfolding declarationsAt
+tables-hold s zero i at t ds e free = absurd (let v : _≡_ {A = ℕ} 0 1 = cc in omega arith)
+tables-hold s (suc fuel) i at t ds e free = by (declAt s at) refl e (tables-hold s fuel)
   where
     Ih : Type 0
-    Ih = (j q : ℕ) (u : Tables) (es : List Declaration) → declarationsAt s fuel q ≡ declarationsAre es → Hold s u j q es (tablesFrom s fuel j q u)
+    Ih = (j q : ℕ) (u : Tables) (es : List Declaration) → declarationsAt s fuel q ≡ declarationsAre es → anyKeyword s (declarationsNames es) ≡ false
+        → Hold s u j q es (tablesFrom s fuel j q u)
 
     -- the declarations behind the first, and the tables with it
     tail : Bool → ℕ → Declarations
     tail b q = elim b [ true ↦ declarationsAt s fuel q | false ↦ declarationsAre [] ]
 
-    next : Decl → ℕ → List Field → Tables
-    next d p xs = withDecl (withFields t i (upToBehind s (d .desc) p)) i d (length xs)
-
     filled : Bool → ℕ → Tables → Tables
     filled b q u = elim b [ true ↦ tablesFrom s fuel (i + 1) q u | false ↦ u ]
 
     on-tail : Ih → (b : Bool) (q : ℕ) → q ≤ length s → (u : Tables) (es : List Declaration) → tail b q ≡ declarationsAre es
-        → Hold s u (i + 1) q es (filled b q u)
-    on-tail ih true q l u es h = ih (i + 1) q u es h
-    on-tail ih false q l u es h =
+        → anyKeyword s (declarationsNames es) ≡ false → Hold s u (i + 1) q es (filled b q u)
+    on-tail ih true q l u es h k = ih (i + 1) q u es h k
+    on-tail ih false q l u es h k =
         subst (λ (x : List Declaration). Hold s u (i + 1) q x u) (let z : [] ≡ es = cc in z) (hold-none s u (i + 1) q l)
 
-    with-tail : (d : Decl) (xs : List Field) (p q : ℕ) (u : Tables) → upToBehind s (d .desc) p ≡ xs → Apart at xs q → (r : Declarations)
-        → ((es : List Declaration) → r ≡ declarationsAre es → Hold s (next d p xs) (i + 1) q es u)
-        → withDeclaration (record { decl = d; fields = xs }) r ≡ declarationsAre ds → Hold s t i at ds u
-    with-tail d xs p q u e a (declarationsAre es) k h =
-        subst (λ (x : List Declaration). Hold s t i at x u) (let z : record { decl = d; fields = xs } ∷ es ≡ ds = cc in z)
-        (hold-more s t i at d xs (upToBehind s (d .desc) p) q es u e a (k es refl))
-    with-tail d xs p q u e a noDeclarations k h = absurd (let v : _≡_ {A = ℕ} 0 1 = cc in omega arith)
+    with-tail : Ih → (d : Decl) (p : ℕ) → declAt s at ≡ DeclRead.Is d p → (xs : List Field) (q : ℕ) → fieldsBehind s (d .desc) p ≡ fieldsAre xs q
+        → (r : Declarations) → tail (ltb q (length s)) q ≡ r → withDeclaration (record { decl = d; fields = xs }) r ≡ declarationsAre ds
+        → Hold s t i at ds (tablesFrom s (suc fuel) i at t)
+    with-tail ih d p ed xs q ef (declarationsAre es) er h =
+        let all : record { decl = d; fields = xs } ∷ es ≡ ds = cc in
+        let own : (anyKeyword s (declNames d) ≡ false) × (anyKeyword s (fieldsNames xs ++ declarationsNames es) ≡ false) =
+        keyword-neither s (declNames d) (fieldsNames xs ++ declarationsNames es)
+        (ap (λ (l : List Declaration). anyKeyword s (declarationsNames l)) all ∙ free) in
+        let theirs : (anyKeyword s (fieldsNames xs) ≡ false) × (anyKeyword s (declarationsNames es) ≡ false) =
+        keyword-neither s (fieldsNames xs) (declarationsNames es) (own .1) in
+        let n : Ends (at + 16) (length s) p = decl-ends s at d p ed in
+        let b : Follow s (upToBehind s (d .desc) p) p xs q = behind-follow s (d .desc) p xs q ef (theirs .0) in
+        subst (λ (u : Tables). Hold s t i at ds u) (sym (then-others s fuel i at t ed ef (own .0) (theirs .0)))
+        (subst (λ (l : List Declaration). Hold s t i at l (filled (ltb q (length s)) q (next d p xs))) all
+        (hold-more s t i at d xs (upToBehind s (d .desc) p) q es (filled (ltb q (length s)) q (next d p xs)) (b .read)
+        (apart-from at p q xs (omega (arith, n .least)) (b .apart))
+        (on-tail ih (ltb q (length s)) q (b .inside (n .most)) (next d p xs) es er (theirs .1))))
+      where
+        next : Decl → ℕ → List Field → Tables
+        next c a ys = withDecl (withFields t i (upToBehind s (c .desc) a)) i c (length ys)
+    with-tail ih d p ed xs q ef noDeclarations er h = absurd (let v : _≡_ {A = ℕ} 0 1 = cc in omega arith)
 
-    on-fields : (d : Decl) (p : ℕ) → Ends (at + 16) (length s) p → (f : Fields) → fieldsBehind s (d .desc) p ≡ f
-        → onFields f noDeclarations (λ xs q. withDeclaration (record { decl = d; fields = xs }) (tail (ltb q (length s)) q)) ≡ declarationsAre ds → Ih
-        → Hold s t i at ds (onFields f (withFields t i (upToBehind s (d .desc) p)) λ xs q. filled (ltb q (length s)) q (next d p xs))
-    on-fields d p n (fieldsAre xs q) ef h ih =
-        let b : Follow s (upToBehind s (d .desc) p) p xs q = behind-follow s (d .desc) p xs q ef in
-        with-tail d xs p q (filled (ltb q (length s)) q (next d p xs)) (b .read) (apart-from at p q xs (omega (arith, n .least)) (b .apart))
-        (tail (ltb q (length s)) q) (on-tail ih (ltb q (length s)) q (b .inside (n .most)) (next d p xs)) h
-    on-fields d p n noFields ef h ih = absurd (let v : _≡_ {A = ℕ} 0 1 = cc in omega arith)
+    on-fields : Ih → (d : Decl) (p : ℕ) → declAt s at ≡ DeclRead.Is d p → (f : Fields) → fieldsBehind s (d .desc) p ≡ f
+        → onFields f noDeclarations (λ xs q. withDeclaration (record { decl = d; fields = xs }) (tail (ltb q (length s)) q)) ≡ declarationsAre ds
+        → Hold s t i at ds (tablesFrom s (suc fuel) i at t)
+    on-fields ih d p ed (fieldsAre xs q) ef h = with-tail ih d p ed xs q ef (tail (ltb q (length s)) q) refl h
+    on-fields ih d p ed noFields ef h = absurd (let v : _≡_ {A = ℕ} 0 1 = cc in omega arith)
 
     by : (g : DeclRead) → declAt s at ≡ g
         → onDecl g noDeclarations (λ d p.
         onFields (fieldsBehind s (d .desc) p) noDeclarations λ xs q. withDeclaration (record { decl = d; fields = xs }) (tail (ltb q (length s)) q))
         ≡ declarationsAre ds
         → Ih
-        → Hold s t i at ds (onDecl g t λ d p.
-        onFields (fieldsBehind s (d .desc) p) (withFields t i (upToBehind s (d .desc) p)) λ xs q. filled (ltb q (length s)) q (next d p xs))
-    by (DeclRead.Is d p) eg h ih = on-fields d p (decl-ends s at d p eg) (fieldsBehind s (d .desc) p) refl h ih
-    by DeclRead.Wrong eg h ih = absurd (let v : _≡_ {A = ℕ} 0 1 = cc in omega arith)
+        → Hold s t i at ds (tablesFrom s (suc fuel) i at t)
+    by (DeclRead.Is d p) ed h ih = on-fields ih d p ed (fieldsBehind s (d .desc) p) refl h
+    by DeclRead.Wrong ed h ih = absurd (let v : _≡_ {A = ℕ} 0 1 = cc in omega arith)
 
 -- ---- runs of stores
 
@@ -259,9 +297,9 @@ rows-counted (d ∷ ds) t i h =
     (rows-counted ds (withRow t i (d .decl) (length (d .fields))) (i + 1) (omega (arith, length-row t i (d .decl) (length (d .fields)))))
 
 pub counts-give : (s : Text) (fuel at : ℕ) (t : Tables) (ds : List Declaration) → declarationsAt s fuel at ≡ declarationsAre ds
-    → length ds * 11 ≤ length (t .rows) → Counted (tablesFrom s fuel 0 at t .rows) 0 ds
-counts-give s fuel at t ds e h =
-    subst (λ (l : List ℕ). Counted l 0 ds) (sym (tables-hold s fuel 0 at t ds e .rows-are)) (rows-counted ds (t .rows) 0 (omega arith))
+    → anyKeyword s (declarationsNames ds) ≡ false → length ds * 11 ≤ length (t .rows) → Counted (tablesFrom s fuel 0 at t .rows) 0 ds
+counts-give s fuel at t ds e free h =
+    subst (λ (l : List ℕ). Counted l 0 ds) (sym (tables-hold s fuel 0 at t ds e free .rows-are)) (rows-counted ds (t .rows) 0 (omega arith))
 
 -- ---- each row of the tables is its declaration
 
@@ -327,15 +365,15 @@ rows-give x v y i (d ∷ ds) (Rows.more ex ez ly ey r) (Backs.more hf b) =
     (declaration-is (declHere x i) (fieldsFrom v y (i * 64) (countHere x i)) d ex
     (ap (fieldsFrom v y (i * 64)) ez ∙ from-take v y (i * 64) (length (d .fields)) ly ∙ ap (fieldsHere v) ey ∙ hf))
 
--- THE BRIDGE: tables that are long enough give the declarations of the record back
-pub tables-give : (s : Text) (fuel at : ℕ) (t : Tables) (ds : List Declaration) → declarationsAt s fuel at ≡ declarationsAre ds → Short ds
-    → length ds * 11 ≤ length (t .rows) → length s / 16 * 17 ≤ length (t .values) → length ds * 64 ≤ length (t .fields)
-    → given (tablesFrom s fuel 0 at t) (length ds) ≡ ds
-tables-give s fuel at t ds e k lr lv lf =
+-- THE BRIDGE: tables that are long enough give the declarations of the record back, where no name is a keyword
+pub tables-give : (s : Text) (fuel at : ℕ) (t : Tables) (ds : List Declaration) → declarationsAt s fuel at ≡ declarationsAre ds
+    → anyKeyword s (declarationsNames ds) ≡ false → Short ds → length ds * 11 ≤ length (t .rows) → length s / 16 * 17 ≤ length (t .values)
+    → length ds * 64 ≤ length (t .fields) → given (tablesFrom s fuel 0 at t) (length ds) ≡ ds
+tables-give s fuel at t ds e free k lr lv lf =
     rw (h .rows-are, h .values-are, h .fields-are)
     (rows-give (withRows (t .rows) 0 ds) (withAll (t .values) ds) (withPlaces (t .fields) 0 ds) 0 ds
     (rows-hold ds (t .rows) (t .fields) 0 k (omega arith) (omega arith))
     (all-back (t .values) at (length s) ds (h .spaced) lv))
   where
     h : Hold s t 0 at ds (tablesFrom s fuel 0 at t)
-    h = tables-hold s fuel 0 at t ds e
+    h = tables-hold s fuel 0 at t ds e free

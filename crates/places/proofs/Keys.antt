@@ -1,13 +1,15 @@
 -- The fields that follow one another: the key of each is its place, each starts 16 bytes or more behind the one before it, and those that are read
--- are the declaration's.
+-- are the declaration's, where no name in them is a keyword.
 -- Assumes nothing.
 use Prim.Native.Nat.{ℕ, zero, suc, _+_, _≤_}
+use mathlib.Core.Bool.{Bool, false}
 use mathlib.Core.List.{List, [], _∷_}
-use mathlib.Core.Path.{_≡_, refl, ap, subst}
+use mathlib.Core.Path.{_≡_, refl, sym, ap, _∙_, subst}
 use native.Mathlib.Omega.{arith}
 use lib.ListN.{length}
-use Rattle.definitions.specs.Bytes.{Text, text}
+use Rattle.definitions.specs.Bytes.{Text, text, pick}
 use Rattle.definitions.specs.Record.{keyAt, onFound, onDesc, onCond, onField, descAt, condAt, fieldAt, fieldsAt, fieldsBehind, Fields, fieldsAre, noFields, withField}
+use Rattle.definitions.specs.Refusals.{anyKeyword, fieldNames, fieldsNames}
 use Rattle.definitions.specs.declared.FieldDesc.{FieldDesc}
 use Rattle.definitions.specs.declared.Field.{Field}
 use Rattle.definitions.specs.declared.DeclDesc.{DeclDesc}
@@ -15,7 +17,10 @@ use Rattle.definitions.specs.declared.Found.{Found}
 use Rattle.definitions.specs.declared.DescRead.{DescRead}
 use Rattle.definitions.specs.declared.CondRead.{CondRead}
 use Rattle.definitions.specs.declared.FieldRead.{FieldRead}
-use Rattle.places.specs.Places.{fieldsUpTo, upToBehind}
+use Rattle.definitions.specs.declared.ScreenedField.{ScreenedField}
+use Rattle.keywords.specs.Screens.{screenField}
+use Rattle.keywords.proofs.Names.{keyword-neither}
+use Rattle.places.specs.Places.{onFreeField, fieldsUpTo, upToBehind}
 use Rattle.places.proofs.Ends.{Ends, field-ends}
 
 -- ---- the key of what was read is its place
@@ -77,34 +82,45 @@ follow-more s at x q ys xs p e f = record {
     n : Ends (at + 16) (length s) q
     n = field-ends s at x q e
 
-pub fields-follow : (s : Text) (fuel at : ℕ) (xs : List Field) (p : ℕ) → fieldsAt s fuel at ≡ fieldsAre xs p → Follow s (fieldsUpTo s fuel at) at xs p
+pub fields-follow : (s : Text) (fuel at : ℕ) (xs : List Field) (p : ℕ) → fieldsAt s fuel at ≡ fieldsAre xs p → anyKeyword s (fieldsNames xs) ≡ false
+    → Follow s (fieldsUpTo s fuel at) at xs p
 unfolding fieldsAt fieldsUpTo
-fields-follow s zero at xs p e = absurd (let z : _≡_ {A = ℕ} 0 1 = cc in omega arith)
-fields-follow s (suc fuel) at xs p e = by (keyAt s at (text "field=")) (fieldAt s at) (fields-follow s fuel) refl e
+fields-follow s zero at xs p e free = absurd (let z : _≡_ {A = ℕ} 0 1 = cc in omega arith)
+fields-follow s (suc fuel) at xs p e free = by (keyAt s at (text "field=")) (fieldAt s at) (fields-follow s fuel) refl e
   where
     Ih : Type 0
-    Ih = (q : ℕ) (ys : List Field) (t : ℕ) → fieldsAt s fuel q ≡ fieldsAre ys t → Follow s (fieldsUpTo s fuel q) q ys t
+    Ih = (q : ℕ) (ys : List Field) (t : ℕ) → fieldsAt s fuel q ≡ fieldsAre ys t → anyKeyword s (fieldsNames ys) ≡ false
+        → Follow s (fieldsUpTo s fuel q) q ys t
+
+    -- the fields from a first one on
+    from : ScreenedField → List Field
+    from g = onFreeField g [] λ x q. x ∷ fieldsUpTo s fuel q
 
     rest : Ih → (x : Field) (q : ℕ) → fieldAt s at ≡ FieldRead.Is x q → (ys : Fields) → fieldsAt s fuel q ≡ ys
-        → withField x ys ≡ fieldsAre xs p → Follow s (x ∷ fieldsUpTo s fuel q) at xs p
+        → withField x ys ≡ fieldsAre xs p → Follow s (from (screenField s (FieldRead.Is x q))) at xs p
     rest ih x q h (fieldsAre ys t) ey k =
-        subst (λ (l : List Field). Follow s (x ∷ fieldsUpTo s fuel q) at l p) (let z : x ∷ ys ≡ xs = cc in z)
+        let each : x ∷ ys ≡ xs = cc in
+        let none : (anyKeyword s (fieldNames x) ≡ false) × (anyKeyword s (fieldsNames ys) ≡ false) =
+        keyword-neither s (fieldNames x) (fieldsNames ys) (ap (λ (l : List Field). anyKeyword s (fieldsNames l)) each ∙ free) in
+        subst (λ (l : List Field). Follow s l at xs p)
+        (sym (ap (λ (b : Bool). from (pick b (ScreenedField.Keyword q) (ScreenedField.Is x q))) (none .0)))
+        (subst (λ (l : List Field). Follow s (x ∷ fieldsUpTo s fuel q) at l p) each
         (subst (λ (u : ℕ). Follow s (x ∷ fieldsUpTo s fuel q) at (x ∷ ys) u) (let z : t ≡ p = cc in z)
-        (follow-more s at x q (fieldsUpTo s fuel q) ys t h (ih q ys t ey)))
+        (follow-more s at x q (fieldsUpTo s fuel q) ys t h (ih q ys t ey (none .1)))))
     rest ih x q h noFields ey k = absurd (let z : _≡_ {A = ℕ} 0 1 = cc in omega arith)
 
     by : (f : Found) (g : FieldRead) → Ih → fieldAt s at ≡ g
         → onFound f (fieldsAre [] at) (λ a. onField g noFields λ x q. withField x (fieldsAt s fuel q)) ≡ fieldsAre xs p
-        → Follow s (onFound f [] λ a. onField g [] λ x q. x ∷ fieldsUpTo s fuel q) at xs p
+        → Follow s (onFound f [] λ a. from (screenField s g)) at xs p
     by Found.Nothing g ih eg k = follow-none s at xs p k
     by (Found.At a) FieldRead.Wrong ih eg k = absurd (let z : _≡_ {A = ℕ} 0 1 = cc in omega arith)
     by (Found.At a) (FieldRead.Is x q) ih eg k = rest ih x q eg (fieldsAt s fuel q) refl k
 
 pub behind-follow : (s : Text) (d : DeclDesc) (at : ℕ) (xs : List Field) (p : ℕ) → fieldsBehind s d at ≡ fieldsAre xs p
-    → Follow s (upToBehind s d at) at xs p
-unfolding fieldsBehind upToBehind
-behind-follow s (DeclDesc.Checksum width) at xs p e = follow-none s at xs p e
-behind-follow s (DeclDesc.CustomField width) at xs p e = follow-none s at xs p e
-behind-follow s (DeclDesc.Enum width isOpen isComplete) at xs p e = follow-none s at xs p e
-behind-follow s (DeclDesc.Packet parent) at xs p e = fields-follow s (length s) at xs p e
-behind-follow s (DeclDesc.Struct parent) at xs p e = fields-follow s (length s) at xs p e
+    → anyKeyword s (fieldsNames xs) ≡ false → Follow s (upToBehind s d at) at xs p
+unfolding fieldsBehind
+behind-follow s (DeclDesc.Checksum width) at xs p e free = follow-none s at xs p e
+behind-follow s (DeclDesc.CustomField width) at xs p e free = follow-none s at xs p e
+behind-follow s (DeclDesc.Enum width isOpen isComplete) at xs p e free = follow-none s at xs p e
+behind-follow s (DeclDesc.Packet parent) at xs p e free = fields-follow s (length s) at xs p e free
+behind-follow s (DeclDesc.Struct parent) at xs p e free = fields-follow s (length s) at xs p e free

@@ -1,4 +1,5 @@
 pub mod Ends
 pub mod Keys
+pub mod Screened
 pub mod Filling
 pub mod Give

@@ -8,6 +8,9 @@ use Rattle.definitions.specs.declared.DeclDesc.{DeclDesc}
 use Rattle.definitions.specs.declared.EndiannessValue.{EndiannessValue}
 use Rattle.definitions.specs.declared.HeadRead.{HeadRead}
 use Rattle.definitions.specs.declared.MaybePart.{MaybePart}
+use Rattle.definitions.specs.declared.Options.{Options}
+use Rattle.definitions.specs.declared.ScreenedName.{ScreenedName}
+use Rattle.definitions.specs.declared.ScreenedHead.{ScreenedHead}
 use Rattle.readers.specs.declared.Parented.{Parented}
 
 abbrev pub parented : Parented → MaybePart → DeclDesc
@@ -19,3 +22,8 @@ targetAt s at endianness =
     onName (nameLine s at (text "target=")) HeadRead.Wrong λ target q.
     onArrays s q HeadRead.Wrong λ arrays r.
     HeadRead.Is (record { options = record { endianness = endianness; arrays = arrays }; target = target }) r
+
+-- a head whose target is a name, or a keyword
+abbrev pub headOf : Options → ScreenedName → ℕ → ScreenedHead
+headOf options (ScreenedName.Free target) p = ScreenedHead.Is (record { options = options; target = target }) p
+headOf options ScreenedName.Keyword p = ScreenedHead.Keyword p

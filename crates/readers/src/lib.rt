@@ -1,63 +1,83 @@
-// A field, a declaration and the head, as they stand at a place of the record (document 01, 'The record').
+// A field, a declaration and the head, as they stand at a place of the record (document 01, 'The record'), or that a name in them is a keyword of C++
+// (document 02, Card 6).
 
 use definitions::Arrays;
 use definitions::BitRead;
 use definitions::Cond;
-use definitions::CondRead;
 use definitions::Decl;
 use definitions::DeclDesc;
-use definitions::DeclRead;
-use definitions::DescRead;
 use definitions::EndiannessValue;
 use definitions::Field;
-use definitions::FieldRead;
 use definitions::Found;
 use definitions::Head;
-use definitions::HeadRead;
 use definitions::MaybeNumberRead;
 use definitions::MaybePart;
-use definitions::MaybePartRead;
-use definitions::NameRead;
 use definitions::NumberRead;
 use definitions::Options;
+use definitions::Part;
+use definitions::ScreenedCond;
+use definitions::ScreenedDecl;
+use definitions::ScreenedDesc;
+use definitions::ScreenedField;
+use definitions::ScreenedHead;
+use definitions::ScreenedName;
+use definitions::ScreenedNameRead;
+use definitions::ScreenedPart;
+use definitions::ScreenedPartRead;
 ghost use mathlib.Core.Path.{_≡_};
 ghost use Rattle.definitions.specs.Record.{condAt, fieldAt, parentedAt, enumAt, checksumDeclAt, customAt, declAt, headAt};
-ghost use Rattle.readers.specs.Heads.{parented, targetAt};
+ghost use Rattle.keywords.specs.Screens.{screenCond, screenField, screenDecl, screenHead};
+ghost use Rattle.definitions.specs.declared.ScreenedDecl.{ScreenedDecl};
+ghost use Rattle.readers.specs.Heads.{parented, targetAt, headOf};
 
 // `if=-`, or `if=NAME` and `is=NUMBER`.
-fn cond_at(rec: &[u8], at: usize) -> CondRead
-    ensures { λ r. ⌜ r ≡ condAt (now (rec .entry)) at ⌝ }
+fn cond_at(rec: &[u8], at: usize) -> ScreenedCond
+    ensures { λ r. ⌜ r ≡ screenCond (now (rec .entry)) (condAt (now (rec .entry)) at) ⌝ }
 {
-    let MaybePartRead::Is(name, p) = keys::maybe_name_line(rec, at, b"if=") else {
-        return CondRead::Wrong;
+    let ScreenedPartRead::Is(name, p) = keys::maybe_name_line(rec, at, b"if=") else {
+        return ScreenedCond::Wrong;
     };
-    let MaybePart::Some(id) = name else {
-        return CondRead::Is(Cond::None, p);
-    };
-    let NumberRead::Is(value, q) = keys::number_line(rec, p, b"is=") else {
-        return CondRead::Wrong;
-    };
-    CondRead::Is(Cond::Some { id, value }, q)
+    match name {
+        ScreenedPart::None => ScreenedCond::Is(Cond::None, p),
+        ScreenedPart::Free(id) => {
+            let NumberRead::Is(value, q) = keys::number_line(rec, p, b"is=") else {
+                return ScreenedCond::Wrong;
+            };
+            ScreenedCond::Is(Cond::Some { id, value }, q)
+        }
+        ScreenedPart::Keyword => {
+            let NumberRead::Is(_, q) = keys::number_line(rec, p, b"is=") else {
+                return ScreenedCond::Wrong;
+            };
+            ScreenedCond::Keyword(q)
+        }
+    }
 }
 
 // One field, and the place behind it.
-pub fn field_at(rec: &[u8], at: usize) -> FieldRead
-    ensures { λ r. ⌜ r ≡ fieldAt (now (rec .entry)) at ⌝ }
+pub fn field_at(rec: &[u8], at: usize) -> ScreenedField
+    ensures { λ r. ⌜ r ≡ screenField (now (rec .entry)) (fieldAt (now (rec .entry)) at) ⌝ }
 {
-    let DescRead::Is(desc, p) = kinds::desc_at(rec, at) else {
-        return FieldRead::Wrong;
-    };
-    let CondRead::Is(cond, q) = cond_at(rec, p) else {
-        return FieldRead::Wrong;
-    };
-    FieldRead::Is(
-        Field {
-            key: at,
-            desc,
-            cond,
+    match kinds::desc_at(rec, at) {
+        ScreenedDesc::Is(desc, p) => match cond_at(rec, p) {
+            ScreenedCond::Is(cond, q) => ScreenedField::Is(
+                Field {
+                    key: at,
+                    desc,
+                    cond,
+                },
+                q,
+            ),
+            ScreenedCond::Keyword(q) => ScreenedField::Keyword(q),
+            ScreenedCond::Wrong => ScreenedField::Wrong,
         },
-        q,
-    )
+        ScreenedDesc::Keyword(p) => match cond_at(rec, p) {
+            ScreenedCond::Is(_, q) => ScreenedField::Keyword(q),
+            ScreenedCond::Keyword(q) => ScreenedField::Keyword(q),
+            ScreenedCond::Wrong => ScreenedField::Wrong,
+        },
+        ScreenedDesc::Wrong => ScreenedField::Wrong,
+    }
 }
 
 // The declarations that can have a parent.
@@ -66,96 +86,107 @@ enum Parented {
     Struct,
 }
 
-// `name` and `parent` of a packet or a struct, whose `decl` line stands at `at` and ends at `p`.
-fn parented_at(rec: &[u8], at: usize, p: usize, kind: Parented) -> DeclRead
-    ensures { λ r. ⌜ r ≡ parentedAt (parented kind) (now (rec .entry)) at p ⌝ }
+// A packet or a struct of this parent.
+fn parented_of(
+    at: usize,
+    id: Part,
+    parent_id: MaybePart,
+    next: usize,
+    kind: Parented,
+) -> ScreenedDecl
+    ensures { λ r. ⌜ r ≡ ScreenedDecl.Is (record { key = at; id = id; desc = parented kind «parent_id» }) next ⌝ }
 {
-    let NameRead::Is(id, q) = keys::name_line(rec, p, b"name=") else {
-        return DeclRead::Wrong;
-    };
-    let MaybePartRead::Is(parent_id, t) = keys::maybe_name_line(rec, q, b"parent=") else {
-        return DeclRead::Wrong;
-    };
     let desc = match kind {
         Parented::Packet => DeclDesc::Packet { parent_id },
         Parented::Struct => DeclDesc::Struct { parent_id },
     };
-    DeclRead::Is(Decl { key: at, id, desc }, t)
+    ScreenedDecl::Is(Decl { key: at, id, desc }, next)
+}
+
+// `name` and `parent` of a packet or a struct, whose `decl` line stands at `at` and ends at `p`.
+fn parented_at(rec: &[u8], at: usize, p: usize, kind: Parented) -> ScreenedDecl
+    ensures { λ r. ⌜ r ≡ screenDecl (now (rec .entry)) (parentedAt (parented kind) (now (rec .entry)) at p) ⌝ }
+{
+    let ScreenedNameRead::Is(name, q) = keys::name_line(rec, p, b"name=") else {
+        return ScreenedDecl::Wrong;
+    };
+    let ScreenedPartRead::Is(parent, t) = keys::maybe_name_line(rec, q, b"parent=") else {
+        return ScreenedDecl::Wrong;
+    };
+    let ScreenedName::Free(id) = name else {
+        return ScreenedDecl::Keyword(t, true);
+    };
+    match parent {
+        ScreenedPart::None => parented_of(at, id, MaybePart::None, t, kind),
+        ScreenedPart::Free(parent_id) => parented_of(at, id, MaybePart::Some(parent_id), t, kind),
+        ScreenedPart::Keyword => ScreenedDecl::Keyword(t, true),
+    }
 }
 
 // `name`, `width`, `open` and `complete` of an enum.
-fn enum_at(rec: &[u8], at: usize, p: usize) -> DeclRead
-    ensures { λ r. ⌜ r ≡ enumAt (now (rec .entry)) at p ⌝ }
+fn enum_at(rec: &[u8], at: usize, p: usize) -> ScreenedDecl
+    ensures { λ r. ⌜ r ≡ screenDecl (now (rec .entry)) (enumAt (now (rec .entry)) at p) ⌝ }
 {
-    let NameRead::Is(id, q) = keys::name_line(rec, p, b"name=") else {
-        return DeclRead::Wrong;
+    let ScreenedNameRead::Is(name, q) = keys::name_line(rec, p, b"name=") else {
+        return ScreenedDecl::Wrong;
     };
     let NumberRead::Is(width, t) = keys::number_line(rec, q, b"width=") else {
-        return DeclRead::Wrong;
+        return ScreenedDecl::Wrong;
     };
     let BitRead::Is(open, u) = keys::bit_line(rec, t, b"open=") else {
-        return DeclRead::Wrong;
+        return ScreenedDecl::Wrong;
     };
     let BitRead::Is(complete, v) = keys::bit_line(rec, u, b"complete=") else {
-        return DeclRead::Wrong;
+        return ScreenedDecl::Wrong;
     };
-    DeclRead::Is(
-        Decl {
-            key: at,
-            id,
-            desc: DeclDesc::Enum {
-                width,
-                open,
-                complete,
-            },
-        },
-        v,
-    )
+    let ScreenedName::Free(id) = name else {
+        return ScreenedDecl::Keyword(v, false);
+    };
+    let desc = DeclDesc::Enum {
+        width,
+        open,
+        complete,
+    };
+    ScreenedDecl::Is(Decl { key: at, id, desc }, v)
 }
 
 // `name` and `width` of a checksum.
-fn checksum_decl_at(rec: &[u8], at: usize, p: usize) -> DeclRead
-    ensures { λ r. ⌜ r ≡ checksumDeclAt (now (rec .entry)) at p ⌝ }
+fn checksum_decl_at(rec: &[u8], at: usize, p: usize) -> ScreenedDecl
+    ensures { λ r. ⌜ r ≡ screenDecl (now (rec .entry)) (checksumDeclAt (now (rec .entry)) at p) ⌝ }
 {
-    let NameRead::Is(id, q) = keys::name_line(rec, p, b"name=") else {
-        return DeclRead::Wrong;
+    let ScreenedNameRead::Is(name, q) = keys::name_line(rec, p, b"name=") else {
+        return ScreenedDecl::Wrong;
     };
     let NumberRead::Is(width, t) = keys::number_line(rec, q, b"width=") else {
-        return DeclRead::Wrong;
+        return ScreenedDecl::Wrong;
     };
-    DeclRead::Is(
-        Decl {
-            key: at,
-            id,
-            desc: DeclDesc::Checksum { width },
-        },
-        t,
-    )
+    let ScreenedName::Free(id) = name else {
+        return ScreenedDecl::Keyword(t, false);
+    };
+    let desc = DeclDesc::Checksum { width };
+    ScreenedDecl::Is(Decl { key: at, id, desc }, t)
 }
 
 // `name` and `width` (or `-`) of a custom.
-fn custom_at(rec: &[u8], at: usize, p: usize) -> DeclRead
-    ensures { λ r. ⌜ r ≡ customAt (now (rec .entry)) at p ⌝ }
+fn custom_at(rec: &[u8], at: usize, p: usize) -> ScreenedDecl
+    ensures { λ r. ⌜ r ≡ screenDecl (now (rec .entry)) (customAt (now (rec .entry)) at p) ⌝ }
 {
-    let NameRead::Is(id, q) = keys::name_line(rec, p, b"name=") else {
-        return DeclRead::Wrong;
+    let ScreenedNameRead::Is(name, q) = keys::name_line(rec, p, b"name=") else {
+        return ScreenedDecl::Wrong;
     };
     let MaybeNumberRead::Is(width, t) = keys::maybe_number_line(rec, q, b"width=") else {
-        return DeclRead::Wrong;
+        return ScreenedDecl::Wrong;
     };
-    DeclRead::Is(
-        Decl {
-            key: at,
-            id,
-            desc: DeclDesc::CustomField { width },
-        },
-        t,
-    )
+    let ScreenedName::Free(id) = name else {
+        return ScreenedDecl::Keyword(t, false);
+    };
+    let desc = DeclDesc::CustomField { width };
+    ScreenedDecl::Is(Decl { key: at, id, desc }, t)
 }
 
 // The lines of a declaration before its fields.
-pub fn decl_at(rec: &[u8], at: usize) -> DeclRead
-    ensures { λ r. ⌜ r ≡ declAt (now (rec .entry)) at ⌝ }
+pub fn decl_at(rec: &[u8], at: usize) -> ScreenedDecl
+    ensures { λ r. ⌜ r ≡ screenDecl (now (rec .entry)) (declAt (now (rec .entry)) at) ⌝ }
 {
     if let Found::At(p) = names::key_at(rec, at, b"decl=packet\n") {
         return parented_at(rec, at, p, Parented::Packet);
@@ -172,36 +203,40 @@ pub fn decl_at(rec: &[u8], at: usize) -> DeclRead
     if let Found::At(p) = names::key_at(rec, at, b"decl=custom\n") {
         return custom_at(rec, at, p);
     }
-    DeclRead::Wrong
+    ScreenedDecl::Wrong
+}
+
+// A head with this target.
+fn head_of(options: Options, target: ScreenedName, next: usize) -> ScreenedHead
+    ensures { λ r. ⌜ r ≡ headOf options target next ⌝ }
+{
+    match target {
+        ScreenedName::Free(target) => ScreenedHead::Is(Head { options, target }, next),
+        ScreenedName::Keyword => ScreenedHead::Keyword(next),
+    }
 }
 
 // `target` and `arrays`, the lines of the head behind `endian`.
-fn target_at(rec: &[u8], at: usize, endianness: EndiannessValue) -> HeadRead
-    ensures { λ r. ⌜ r ≡ targetAt (now (rec .entry)) at endianness ⌝ }
+fn target_at(rec: &[u8], at: usize, endianness: EndiannessValue) -> ScreenedHead
+    ensures { λ r. ⌜ r ≡ screenHead (now (rec .entry)) (targetAt (now (rec .entry)) at endianness) ⌝ }
 {
-    let NameRead::Is(target, p) = keys::name_line(rec, at, b"target=") else {
-        return HeadRead::Wrong;
+    let ScreenedNameRead::Is(target, p) = keys::name_line(rec, at, b"target=") else {
+        return ScreenedHead::Wrong;
     };
     if let Found::At(q) = names::key_at(rec, p, b"arrays=lite\n") {
-        let options = Options {
-            endianness,
-            arrays: Arrays::Lite,
-        };
-        return HeadRead::Is(Head { options, target }, q);
+        let arrays = Arrays::Lite;
+        return head_of(Options { endianness, arrays }, target, q);
     }
     if let Found::At(q) = names::key_at(rec, p, b"arrays=full\n") {
-        let options = Options {
-            endianness,
-            arrays: Arrays::Full,
-        };
-        return HeadRead::Is(Head { options, target }, q);
+        let arrays = Arrays::Full;
+        return head_of(Options { endianness, arrays }, target, q);
     }
-    HeadRead::Wrong
+    ScreenedHead::Wrong
 }
 
 // The head: `endian`, `target`, `arrays`.
-pub fn head_at(rec: &[u8], at: usize) -> HeadRead
-    ensures { λ r. ⌜ r ≡ headAt (now (rec .entry)) at ⌝ }
+pub fn head_at(rec: &[u8], at: usize) -> ScreenedHead
+    ensures { λ r. ⌜ r ≡ screenHead (now (rec .entry)) (headAt (now (rec .entry)) at) ⌝ }
 {
     if let Found::At(p) = names::key_at(rec, at, b"endian=little\n") {
         return target_at(rec, p, EndiannessValue::LittleEndian);
@@ -209,5 +244,5 @@ pub fn head_at(rec: &[u8], at: usize) -> HeadRead
     if let Found::At(p) = names::key_at(rec, at, b"endian=big\n") {
         return target_at(rec, p, EndiannessValue::BigEndian);
     }
-    HeadRead::Wrong
+    ScreenedHead::Wrong
 }

@@ -10,19 +10,23 @@ use native.Mathlib.Omega.{arith}
 use borrow.Author.Tests.{ltb-false}
 use lib.Dec.{ltb, eqb}
 use lib.ListN.{length}
-use Rattle.definitions.specs.Bytes.{Text, any}
+use Rattle.definitions.specs.Bytes.{Text, any, part, pick}
+use Rattle.definitions.specs.Keywords.{isKeyword}
 use Rattle.definitions.specs.Record.{Declaration, Declarations, declarationsAre, noDeclarations, onHead, headAt, declarationsAt, withHead, readRecord, noRecord}
-use Rattle.definitions.specs.Refusals.{tooMany}
+use Rattle.definitions.specs.Refusals.{anyKeyword, declarationsNames, keywordName, tooMany, refuseIf}
 use Rattle.tables.specs.Tables.{Tables, declarationsFrom, countHere}
 use Rattle.definitions.specs.Answer.{wrongLength}
 use Rattle.definitions.specs.declared.Head.{Head}
 use Rattle.definitions.specs.declared.HeadRead.{HeadRead}
 use Rattle.definitions.specs.declared.Refusal.{Refusal}
-use Rattle.places.specs.Places.{given, tablesFrom, howMany}
+use Rattle.definitions.specs.declared.ScreenedHead.{ScreenedHead}
+use Rattle.keywords.specs.Screens.{screenHead}
+use Rattle.places.specs.Places.{given, screenDecls, tablesFrom}
+use Rattle.places.specs.declared.DeclsRead.{DeclsRead}
 use Rattle.places.proofs.Give.{Counted, Short, counts-give, tables-give}
 use Rattle.tables.proofs.Walks.{length-declarations, length-fields}
 use Rattle.ranges.proofs.Tests.{neither, long}
-use Rattle.record.specs.Reader.{readVerdict, readingOf, readingRead, reading, readingCounted, readingIn, tablesAfter, valuesRoom, InTables, OfRecord}
+use Rattle.record.specs.Reader.{readVerdict, readingOf, readingRead, reading, onScreenedHead, tablesAfter, readingCounted, readingKeyword, readingIn, valuesRoom, InTables, OfRecord}
 use Rattle.record.specs.declared.Reading.{Reading}
 
 -- the lengths of document 01, and room for the values of the record's fields
@@ -56,7 +60,7 @@ abbrev pub filled : Text → ℕ → Tables → Tables
 filled s at t = tablesFrom s (length s) 0 at t
 
 module _ (s : Text) (at : ℕ) (t : Tables) (w : Whole s t) (right : wrongLength s ≡ false) (ds : List Declaration)
-    (e : declarationsAt s (length s) at ≡ declarationsAre ds) where
+    (e : declarationsAt s (length s) at ≡ declarationsAre ds) (free : anyKeyword s (declarationsNames ds) ≡ false) where
   many-given : tooMany (given (filled s at t) (length ds)) ≡ tooMany ds
   unfolding tooMany
   many-given = rw (length-declarations (filled s at t .rows) (filled s at t .values) (filled s at t .fields) 0 (length ds)) (by (ltb 32 (length ds)) refl)
@@ -65,14 +69,14 @@ module _ (s : Text) (at : ℕ) (t : Tables) (w : Whole s t) (right : wrongLength
       by true h = refl
       by false h =
           long-given (filled s at t .rows) (filled s at t .values) (filled s at t .fields) 0 ds
-          (counts-give s (length s) at t ds e (let k : length ds ≤ 32 = ltb-false 32 (length ds) h in omega (arith, w .declarations)))
+          (counts-give s (length s) at t ds e free (let k : length ds ≤ 32 = ltb-false 32 (length ds) h in omega (arith, w .declarations)))
 
   pub few-given : tooMany ds ≡ false → given (filled s at t) (length ds) ≡ ds
   unfolding tooMany
   few-given h =
       let k : (ltb 32 (length ds) ≡ false) × (any long ds ≡ false) = neither (ltb 32 (length ds)) (any long ds) h in
       let few : length ds ≤ 32 = ltb-false 32 (length ds) (k .0) in
-      tables-give s (length s) at t ds e (all-short ds (k .1)) (omega (arith, w .declarations))
+      tables-give s (length s) at t ds e free (all-short ds (k .1)) (omega (arith, w .declarations))
       (room-inside s (t .values) right (w .values)) (omega (arith, w .fields))
 
   verdict-given : readVerdict s (given (filled s at t) (length ds)) ≡ readVerdict s ds
@@ -86,10 +90,16 @@ module _ (s : Text) (at : ℕ) (t : Tables) (w : Whole s t) (right : wrongLength
 -- ---- the whole record
 
 -- the tables, where the length is right
-abbrev pub afterHead : Text → Tables → HeadRead → Tables
-afterHead s t g = onHead g t λ h p. filled s p t
+abbrev pub afterHead : Text → Tables → ScreenedHead → Tables
+afterHead s t g = onScreenedHead g t (λ p. t) λ h p. filled s p t
 
-pub after-right : (s : Text) (t : Tables) → wrongLength s ≡ false → tablesAfter s t ≡ afterHead s t (headAt s 0)
+-- the answer by these tables
+abbrev inHead : Text → Tables → ScreenedHead → Reading
+inHead s t g =
+    onScreenedHead g (Reading.Refuse Refusal.RecordForm) (λ p. readingKeyword (screenDecls s true 0 (declarationsAt s (length s) p)))
+    λ h p. readingCounted s h t (screenDecls s false 0 (declarationsAt s (length s) p))
+
+pub after-right : (s : Text) (t : Tables) → wrongLength s ≡ false → tablesAfter s t ≡ afterHead s t (screenHead s (headAt s 0))
 unfolding tablesAfter
 after-right s t e = rw (e, tablesAfter)
 
@@ -97,8 +107,7 @@ in-wrong : (s : Text) (t : Tables) → wrongLength s ≡ true → readingIn s t 
 unfolding readingIn
 in-wrong s t e = rw (e, readingIn)
 
-in-right : (s : Text) (t : Tables) → wrongLength s ≡ false
-    → readingIn s t ≡ onHead (headAt s 0) (Reading.Refuse Refusal.RecordForm) λ h p. readingCounted s h t (howMany 0 (declarationsAt s (length s) p))
+in-right : (s : Text) (t : Tables) → wrongLength s ≡ false → readingIn s t ≡ inHead s t (screenHead s (headAt s 0))
 unfolding readingIn
 in-right s t e = rw (e, readingIn)
 
@@ -110,29 +119,56 @@ pub reading-right : (s : Text) → wrongLength s ≡ false → reading s ≡ rea
 unfolding reading
 reading-right s e = rw (e, reading)
 
+-- the target first, then the declarations
+name-either : (s : Text) (h : Head) (ds : List Declaration) → keywordName s h ds ≡ (isKeyword (part s (h .target)) || anyKeyword s (declarationsNames ds))
+unfolding anyKeyword
+name-either s h ds = refl
+
 pub reading-agrees : (s : Text) (t : Tables) → Whole s t → readingIn s (tablesAfter s t) ≡ reading s
 unfolding readRecord
 reading-agrees s t w = by (wrongLength s) refl
   where
-    on-declarations : wrongLength s ≡ false → (h : Head) (p : ℕ) (r : Declarations) → declarationsAt s (length s) p ≡ r
-        → readingCounted s h (filled s p t) (howMany 0 r) ≡ readingRead s (withHead h r)
-    on-declarations right h p (declarationsAre ds) e =
+    keyword-first : (h : Head) → isKeyword (part s (h .target)) ≡ true → (r : Declarations)
+        → readingKeyword (screenDecls s true 0 r) ≡ readingRead s (withHead h r)
+    keyword-first h k (declarationsAre ds) =
+        sym (ap (λ (b : Bool). readingOf h (length ds) (refuseIf b Refusal.Keyword (readVerdict s ds)))
+        (name-either s h ds ∙ ap (λ (b : Bool). b || anyKeyword s (declarationsNames ds)) k))
+    keyword-first h k noDeclarations = refl
+
+    on-names : wrongLength s ≡ false → (h : Head) (p : ℕ) (ds : List Declaration) → declarationsAt s (length s) p ≡ declarationsAre ds
+        → (b : Bool) → anyKeyword s (declarationsNames ds) ≡ b
+        → readingCounted s h (filled s p t) (pick b DeclsRead.Keyword (DeclsRead.Is (0 + length ds)))
+        ≡ readingOf h (length ds) (refuseIf b Refusal.Keyword (readVerdict s ds))
+    on-names right h p ds e true k = refl
+    on-names right h p ds e false k =
         ap (λ (n : ℕ). readingOf h n (readVerdict s (given (filled s p t) n))) (zero-add (length ds))
-        ∙ ap (readingOf h (length ds)) (verdict-given s p t w right ds e)
-    on-declarations right h p noDeclarations e = refl
+        ∙ ap (readingOf h (length ds)) (verdict-given s p t w right ds e k)
+
+    on-declarations : wrongLength s ≡ false → (h : Head) → isKeyword (part s (h .target)) ≡ false → (p : ℕ) (r : Declarations)
+        → declarationsAt s (length s) p ≡ r → readingCounted s h (filled s p t) (screenDecls s false 0 r) ≡ readingRead s (withHead h r)
+    on-declarations right h k p (declarationsAre ds) e =
+        on-names right h p ds e (anyKeyword s (declarationsNames ds)) refl
+        ∙ sym (ap (λ (b : Bool). readingOf h (length ds) (refuseIf b Refusal.Keyword (readVerdict s ds)))
+        (name-either s h ds ∙ ap (λ (b : Bool). b || anyKeyword s (declarationsNames ds)) k))
+    on-declarations right h k p noDeclarations e = refl
+
+    on-target : wrongLength s ≡ false → (h : Head) (p : ℕ) (b : Bool) → isKeyword (part s (h .target)) ≡ b
+        → inHead s (afterHead s t (pick b (ScreenedHead.Keyword p) (ScreenedHead.Is h p))) (pick b (ScreenedHead.Keyword p) (ScreenedHead.Is h p))
+        ≡ readingRead s (withHead h (declarationsAt s (length s) p))
+    on-target right h p true k = keyword-first h k (declarationsAt s (length s) p)
+    on-target right h p false k = on-declarations right h k p (declarationsAt s (length s) p) refl
 
     on-head : wrongLength s ≡ false → (g : HeadRead)
-        → onHead g (Reading.Refuse Refusal.RecordForm) (λ h p. readingCounted s h (afterHead s t g) (howMany 0 (declarationsAt s (length s) p)))
+        → inHead s (afterHead s t (screenHead s g)) (screenHead s g)
         ≡ readingRead s (onHead g noRecord λ h p. withHead h (declarationsAt s (length s) p))
-    on-head right (HeadRead.Is h p) = on-declarations right h p (declarationsAt s (length s) p) refl
+    on-head right (HeadRead.Is h p) = on-target right h p (isKeyword (part s (h .target))) refl
     on-head right HeadRead.Wrong = refl
 
     by : (b : Bool) → wrongLength s ≡ b → readingIn s (tablesAfter s t) ≡ reading s
     by true e = in-wrong s (tablesAfter s t) e ∙ sym (reading-wrong s e)
     by false e =
         in-right s (tablesAfter s t) e
-        ∙ ap (λ (x : Tables). onHead (headAt s 0) (Reading.Refuse Refusal.RecordForm) λ h p.
-        readingCounted s h x (howMany 0 (declarationsAt s (length s) p))) (after-right s t e)
+        ∙ ap (λ (x : Tables). inHead s x (screenHead s (headAt s 0))) (after-right s t e)
         ∙ on-head e (headAt s 0)
         ∙ sym (reading-right s e)
 

@@ -7,26 +7,29 @@ use mathlib.Core.List.{List}
 use mathlib.Core.Path.{_≡_, refl, sym, ap, _∙_, subst}
 use native.Mathlib.Omega.{arith}
 use lib.ListN.{length}
-use Rattle.definitions.specs.Bytes.{Text}
+use Rattle.definitions.specs.Bytes.{Text, part, pick}
+use Rattle.definitions.specs.Keywords.{isKeyword}
 use Rattle.definitions.specs.Record.{Declaration, Declarations, declarationsAre, noDeclarations, RecordRead, recordIs, noRecord, onHead, headAt, declarationsAt, withHead, readRecord}
 use Rattle.definitions.specs.Sizes.{Schema, newSchema}
-use Rattle.definitions.specs.Refusals.{tooMany, duplicateName, unknownName, outOfRange, large, ragged, noTarget, refuseIf, verdict}
+use Rattle.definitions.specs.Refusals.{anyKeyword, declarationsNames, keywordName, tooMany, duplicateName, unknownName, outOfRange, large, ragged, noTarget, refuseIf, verdict}
 use Rattle.definitions.specs.FieldParser.{refused}
 use Rattle.definitions.specs.Answer.{wrongLength, lowerRecord, answerRead, answer}
 use Rattle.definitions.specs.declared.Head.{Head}
 use Rattle.definitions.specs.declared.HeadRead.{HeadRead}
 use Rattle.definitions.specs.declared.Refusal.{Refusal}
 use Rattle.definitions.specs.declared.Verdict.{Verdict}
+use Rattle.definitions.specs.declared.ScreenedHead.{ScreenedHead}
+use Rattle.keywords.specs.Screens.{screenHead}
 use Rattle.tables.specs.Tables.{Tables, countHere}
 use Rattle.places.specs.Places.{given}
 use Rattle.ranges.specs.Ranges.{bare}
-use Rattle.ranges.proofs.Tests.{few-declarations, few-fields}
-use Rattle.record.specs.Reader.{readVerdict, readingOf, readingRead, reading, tablesAfter}
+use Rattle.ranges.proofs.Tests.{neither, few-declarations, few-fields}
+use Rattle.record.specs.Reader.{readVerdict, firstVerdict, readingOf, readingRead, reading, tablesAfter}
 use Rattle.record.specs.declared.Reading.{Reading}
 use Rattle.record.proofs.Verdicts.{many-bare}
 use Rattle.record.proofs.Agree.{Whole, few-given, reading-wrong, reading-right, after-right, afterHead, filled}
 
--- ---- 3 to 6, then 7 to 9
+-- ---- 16 and 3 to 6, then 7 to 9
 
 -- the rest of `verdict`
 abbrev pub laterVerdict : Text → Head → Schema → Verdict
@@ -44,15 +47,17 @@ on-refuse true why x next = refl
 on-refuse false why x next = refl
 
 pub verdict-parts : (s : Text) (h : Head) (ds : List Declaration) (schema : Schema)
-    → verdict s h ds schema ≡ onVerdict (readVerdict s ds) (laterVerdict s h schema)
+    → verdict s h ds schema ≡ onVerdict (firstVerdict s h ds) (laterVerdict s h schema)
 unfolding verdict readVerdict
 verdict-parts s h ds schema =
-    ap (refuseIf (tooMany ds) Refusal.TooMany)
+    ap (refuseIf (keywordName s h ds) Refusal.Keyword)
+    (ap (refuseIf (tooMany ds) Refusal.TooMany)
     (ap (refuseIf (duplicateName s ds) Refusal.DuplicateName)
     (ap (refuseIf (unknownName s ds) Refusal.UnknownName) (on-refuse (outOfRange ds) Refusal.OutOfRange Verdict.Pass next)
     ∙ on-refuse (unknownName s ds) Refusal.UnknownName range next)
     ∙ on-refuse (duplicateName s ds) Refusal.DuplicateName (refuseIf (unknownName s ds) Refusal.UnknownName range) next)
-    ∙ on-refuse (tooMany ds) Refusal.TooMany (refuseIf (duplicateName s ds) Refusal.DuplicateName (refuseIf (unknownName s ds) Refusal.UnknownName range)) next
+    ∙ on-refuse (tooMany ds) Refusal.TooMany (refuseIf (duplicateName s ds) Refusal.DuplicateName (refuseIf (unknownName s ds) Refusal.UnknownName range)) next)
+    ∙ on-refuse (keywordName s h ds) Refusal.Keyword (readVerdict s ds) next
   where
     next : Verdict
     next = laterVerdict s h schema
@@ -60,7 +65,7 @@ verdict-parts s h ds schema =
     range : Verdict
     range = refuseIf (outOfRange ds) Refusal.OutOfRange Verdict.Pass
 
--- ---- a refusal by 1 to 6 is the record's
+-- ---- a refusal by 1, 2, 16 or 3 to 6 is the record's
 
 lower-refused : (s : Text) (h : Head) (ds : List Declaration) (schema : Schema) (why : Refusal) → verdict s h ds schema ≡ Verdict.Refuse why
     → lowerRecord s h ds schema ≡ refused why
@@ -71,7 +76,7 @@ pub answer-refused : (s : Text) (why : Refusal) → reading s ≡ Reading.Refuse
 unfolding answer
 answer-refused s why e = by (wrongLength s) refl
   where
-    on-verdict : (h : Head) (ds : List Declaration) (v : Verdict) → readVerdict s ds ≡ v → readingOf h (length ds) v ≡ Reading.Refuse why
+    on-verdict : (h : Head) (ds : List Declaration) (v : Verdict) → firstVerdict s h ds ≡ v → readingOf h (length ds) v ≡ Reading.Refuse why
         → lowerRecord s h ds (newSchema s ds) ≡ refused why
     on-verdict h ds Verdict.Pass ev k = absurd (let z : _≡_ {A = ℕ} 0 1 = cc in omega arith)
     on-verdict h ds (Verdict.Refuse w) ev k =
@@ -81,7 +86,7 @@ answer-refused s why e = by (wrongLength s) refl
 
     on-read : (r : RecordRead) → readingRead s r ≡ Reading.Refuse why → answerRead s r ≡ refused why
     on-read noRecord k = let q : Refusal.RecordForm ≡ why = cc in ap refused q
-    on-read (recordIs h ds) k = on-verdict h ds (readVerdict s ds) refl k
+    on-read (recordIs h ds) k = on-verdict h ds (firstVerdict s h ds) refl k
 
     by : (b : Bool) → wrongLength s ≡ b → answer s ≡ refused why
     by true h = let q : Refusal.RecordLength ≡ why = cc (reading-wrong s h) in rw (answer, h, q)
@@ -92,9 +97,21 @@ answer-refused s why e = by (wrongLength s) refl
 pub record Passed (s : Text) (h : Head) (n : ℕ) (t : Tables) : Type 0 where
   pub right-length : wrongLength s ≡ false
   pub read : readRecord s ≡ recordIs h (given t n)
+  pub no-keyword : keywordName s h (given t n) ≡ false
   pub passed : readVerdict s (given t n) ≡ Verdict.Pass
   pub few : n ≤ 32
   pub short : (i : ℕ) → i < n → countHere (t .rows) i ≤ 64
+
+-- 16 is not met
+none-first : (b : Bool) (v : Verdict) → refuseIf b Refusal.Keyword v ≡ Verdict.Pass → (b ≡ false) × (v ≡ Verdict.Pass)
+none-first true v e = absurd (let z : _≡_ {A = ℕ} 0 1 = cc in omega arith)
+none-first false v e = (refl, e)
+
+-- nor by the target, nor by the declarations
+none-either : (s : Text) (h : Head) (ds : List Declaration) → keywordName s h ds ≡ false
+    → (isKeyword (part s (h .target)) ≡ false) × (anyKeyword s (declarationsNames ds) ≡ false)
+unfolding anyKeyword
+none-either s h ds e = neither (isKeyword (part s (h .target))) (anyKeyword s (declarationsNames ds)) e
 
 -- 3 is not met
 none-many : (s : Text) (ds : List Declaration) → readVerdict s ds ≡ Verdict.Pass → tooMany ds ≡ false
@@ -107,21 +124,27 @@ none-many s ds e = by (tooMany ds) refl
 
 module _ (s : Text) (t : Tables) (w : Whole s t) (right : wrongLength s ≡ false) where
   passed-with : (h : Head) (p : ℕ) (ds : List Declaration) → headAt s 0 ≡ HeadRead.Is h p → declarationsAt s (length s) p ≡ declarationsAre ds
-      → readVerdict s ds ≡ Verdict.Pass → Passed s h (length ds) (tablesAfter s t)
+      → keywordName s h ds ≡ false → readVerdict s ds ≡ Verdict.Pass → Passed s h (length ds) (tablesAfter s t)
   unfolding readRecord
-  passed-with h p ds eh ed ev = record {
+  passed-with h p ds eh ed ek ev = record {
     right-length = right;
     read = rw (eh, ed) (ap (recordIs h) (sym back));
+    no-keyword = ap (keywordName s h) back ∙ ek;
     passed = ap (readVerdict s) back ∙ ev;
     few = few-declarations (tablesAfter s t .rows) (length ds) fewer;
     short = few-fields (tablesAfter s t .rows) (length ds) fewer;
   }
     where
       after : tablesAfter s t ≡ filled s p t
-      after = after-right s t right ∙ ap (afterHead s t) eh
+      after =
+          after-right s t right
+          ∙ ap (afterHead s t)
+          (ap (screenHead s) eh ∙ ap (λ (b : Bool). pick b (ScreenedHead.Keyword p) (ScreenedHead.Is h p)) (none-either s h ds ek .0))
 
       back : given (tablesAfter s t) (length ds) ≡ ds
-      back = ap (λ (x : Tables). given x (length ds)) after ∙ few-given s p t w right ds ed (none-many s ds ev)
+      back =
+          ap (λ (x : Tables). given x (length ds)) after
+          ∙ few-given s p t w right ds ed (none-either s h ds ek .1) (none-many s ds ev)
 
       fewer : tooMany (bare (tablesAfter s t .rows) (length ds)) ≡ false
       fewer =
@@ -134,17 +157,18 @@ reading-passed s t w h n e = by (wrongLength s) refl
   where
     on-verdict : wrongLength s ≡ false → (g : Head) (p : ℕ) (ds : List Declaration)
         → headAt s 0 ≡ HeadRead.Is g p → declarationsAt s (length s) p ≡ declarationsAre ds
-        → (v : Verdict) → readVerdict s ds ≡ v → readingOf g (length ds) v ≡ Reading.Pass h n → Passed s h n (tablesAfter s t)
+        → (v : Verdict) → firstVerdict s g ds ≡ v → readingOf g (length ds) v ≡ Reading.Pass h n → Passed s h n (tablesAfter s t)
     on-verdict r g p ds eh ed Verdict.Pass ev k =
         let eg : g ≡ h = cc in
         let en : length ds ≡ n = cc in
+        let none : (keywordName s g ds ≡ false) × (readVerdict s ds ≡ Verdict.Pass) = none-first (keywordName s g ds) (readVerdict s ds) ev in
         subst (λ (x : Head). Passed s x n (tablesAfter s t)) eg
-        (subst (λ (m : ℕ). Passed s g m (tablesAfter s t)) en (passed-with s t w r g p ds eh ed ev))
+        (subst (λ (m : ℕ). Passed s g m (tablesAfter s t)) en (passed-with s t w r g p ds eh ed (none .0) (none .1)))
     on-verdict r g p ds eh ed (Verdict.Refuse why) ev k = absurd (let z : _≡_ {A = ℕ} 0 1 = cc in omega arith)
 
     on-declarations : wrongLength s ≡ false → (g : Head) (p : ℕ) → headAt s 0 ≡ HeadRead.Is g p → (d : Declarations) → declarationsAt s (length s) p ≡ d
         → readingRead s (withHead g d) ≡ Reading.Pass h n → Passed s h n (tablesAfter s t)
-    on-declarations r g p eh (declarationsAre ds) ed k = on-verdict r g p ds eh ed (readVerdict s ds) refl k
+    on-declarations r g p eh (declarationsAre ds) ed k = on-verdict r g p ds eh ed (firstVerdict s g ds) refl k
     on-declarations r g p eh noDeclarations ed k = absurd (let z : _≡_ {A = ℕ} 0 1 = cc in omega arith)
 
     on-head : wrongLength s ≡ false → (g : HeadRead) → headAt s 0 ≡ g
@@ -163,4 +187,7 @@ unfolding answer
 answer-passed {s} p = rw (answer, p .right-length) (ap (answerRead s) (p .read))
 
 pub verdict-passed : {s : Text} {h : Head} {n : ℕ} {t : Tables} → Passed s h n t → (schema : Schema) → verdict s h (given t n) schema ≡ laterVerdict s h schema
-verdict-passed {s} {h} {n} {t} p schema = verdict-parts s h (given t n) schema ∙ ap (λ (v : Verdict). onVerdict v (laterVerdict s h schema)) (p .passed)
+verdict-passed {s} {h} {n} {t} p schema =
+    verdict-parts s h (given t n) schema
+    ∙ ap (λ (b : Bool). onVerdict (refuseIf b Refusal.Keyword (readVerdict s (given t n))) (laterVerdict s h schema)) (p .no-keyword)
+    ∙ ap (λ (v : Verdict). onVerdict v (laterVerdict s h schema)) (p .passed)

@@ -1,9 +1,9 @@
 // The record reader (document 01, module 2): refusals 1 to 6, each over the whole record before the next, or the head, the number of declarations and
-// the tables of what was read.
+// the tables of what was read. Behind 2 and before 3 stands 16, of a name that is a keyword of C++ (document 02, Card 6).
 
 use definitions::Head;
-use definitions::HeadRead;
 use definitions::Refusal;
+use definitions::ScreenedHead;
 use definitions::Verdict;
 use places::DeclsRead;
 ghost use mathlib.Core.Path.{_≡_};
@@ -37,7 +37,7 @@ fn read_verdict(rec: &[u8], rows: &[u64], values: &[u64], fields: &[u16], n: usi
     Verdict::Pass
 }
 
-// The answer for a record of the right form.
+// The answer for a record of the right form without keywords.
 fn judge(rec: &[u8], rows: &[u64], values: &[u64], fields: &[u16], head: Head, n: usize) -> Reading
     ensures { λ r. ⌜ r ≡ readingOf head n
         (readVerdict (now (rec .entry)) (declarationsFrom (now (rows .entry)) (now (values .entry)) (now (fields .entry)) 0 n)) ⌝ }
@@ -61,13 +61,19 @@ fn read_tables(rec: &[u8], rows: &mut [u64], values: &mut [u64], fields: &mut [u
     if 16384 < n {
         return Reading::Refuse(Refusal::RecordLength);
     }
-    let HeadRead::Is(head, p) = readers::head_at(rec, 0) else {
-        return Reading::Refuse(Refusal::RecordForm);
-    };
-    let DeclsRead::Is(m) = places::fill(rec, p, rows, values, fields) else {
-        return Reading::Refuse(Refusal::RecordForm);
-    };
-    judge(rec, rows, values, fields, head, m)
+    match readers::head_at(rec, 0) {
+        ScreenedHead::Is(head, p) => match places::fill(rec, p, false, rows, values, fields) {
+            DeclsRead::Is(m) => judge(rec, rows, values, fields, head, m),
+            DeclsRead::Keyword => Reading::Refuse(Refusal::Keyword),
+            DeclsRead::Wrong => Reading::Refuse(Refusal::RecordForm),
+        },
+        ScreenedHead::Keyword(p) => match places::fill(rec, p, true, rows, values, fields) {
+            DeclsRead::Is(_) => Reading::Refuse(Refusal::Keyword),
+            DeclsRead::Keyword => Reading::Refuse(Refusal::Keyword),
+            DeclsRead::Wrong => Reading::Refuse(Refusal::RecordForm),
+        },
+        ScreenedHead::Wrong => Reading::Refuse(Refusal::RecordForm),
+    }
 }
 
 // The reader, with tables of 32 declarations and 2,048 fields, and room for the values of the record's fields.

@@ -1,5 +1,5 @@
 // Replays the stored cases of standard input (oracle/README.md, 'Cases') against the record reader and the size tables. A record whose answer
-// is 1 to 9 must be refused by that number, and every other must pass. Then one number is made of the size tables of all that pass, as `judge
+// is 1 to 9 or 16 must be refused by that number, and every other must pass. Then one number is made of the size tables of all that pass, as `judge
 // digest` makes it.
 
 use cases::Next;
@@ -11,7 +11,7 @@ ghost use Prim.Native.Nat.{_<_};
 
 // ---- one record
 
-// By which number a record is refused, 1 to 9, or 0; and one number for its size tables where it is not.
+// By which number a record is refused, 1 to 9 or 16, or 0; and one number for its size tables where it is not.
 pub struct Judged {
     pub refused: u64,
     pub digest: u64,
@@ -92,8 +92,19 @@ pub struct Tally {
     pub digest: u64,
 }
 
+// What the reader and the size tables are to refuse a record by whose answer this is: 10 to 15 are met later.
+fn expected_of(answer: u64) -> u64 {
+    if answer < 10 {
+        return answer;
+    }
+    if answer == 16 {
+        return 16;
+    }
+    0
+}
+
 fn tallied(t: Tally, answer: u64, judged: Judged) -> Tally {
-    let expected = if answer < 10 { answer } else { 0 };
+    let expected = expected_of(answer);
     let refused = judged.refused;
     Tally {
         cases: console::plus_one(t.cases),

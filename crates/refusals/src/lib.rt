@@ -1,5 +1,5 @@
-// The number of a refusal (document 01, 'The answer, and why a record is turned back'), and the 64-bit number that a record comes to which is
-// turned back ('Modules': the answer times 2^32 plus the length, which is 0). Every program and every exported function numbers refusals by these.
+// The number of a refusal (document 01, 'The answer, and why a record is turned back'; 16: document 02), and the 64-bit number that a record comes
+// to which is turned back ('Modules': the answer times 2^32 plus the length, which is 0). Every program and every exported function numbers refusals by these.
 
 use definitions::Refusal;
 ghost use mathlib.Core.Path.{_≡_};
@@ -7,11 +7,12 @@ ghost use Prim.Native.Nat.{_*_, _≤_, _^_};
 ghost use Rattle.definitions.specs.Refusals.{number};
 
 pub fn number_of(why: Refusal) -> u64
-    ensures { λ r. ⌜ (r ≡ number why) × (r ≤ 15) ⌝ }
+    ensures { λ r. ⌜ (r ≡ number why) × (r ≤ 16) ⌝ }
 {
     match why {
         Refusal::RecordLength => 1,
         Refusal::RecordForm => 2,
+        Refusal::Keyword => 16,
         Refusal::TooMany => 3,
         Refusal::DuplicateName => 4,
         Refusal::UnknownName => 5,

@@ -1,13 +1,13 @@
--- Refusals 7 to 9, one after the other, and that they are the rest of `verdict` where none of 3 to 6 is met.
+-- Refusals 7 to 9, one after the other, as the end of `verdict` has them.
 -- Assumes nothing.
 use Prim.Native.Nat.{ℕ}
 use mathlib.Core.Bool.{Bool, true, false, not}
 use mathlib.Core.List.{List}
 use mathlib.Core.Path.{_≡_, refl, sym, ap, _∙_}
 use Rattle.definitions.specs.Bytes.{Text, any}
-use Rattle.definitions.specs.Record.{Declaration, isFound}
+use Rattle.definitions.specs.Record.{isFound}
 use Rattle.definitions.specs.Sizes.{Schema, newSchema}
-use Rattle.definitions.specs.Refusals.{tooMany, duplicateName, unknownName, outOfRange, large, ragged, noTarget, isTarget, refuseIf, verdict}
+use Rattle.definitions.specs.Refusals.{large, ragged, noTarget, isTarget, refuseIf}
 use Rattle.definitions.specs.declared.Found.{Found}
 use Rattle.definitions.specs.declared.Head.{Head}
 use Rattle.definitions.specs.declared.Refusal.{Refusal}
@@ -87,8 +87,3 @@ module _ (s : Text) (h : Head) (schema : Schema) where
           (refuseIf (ragged s schema) Refusal.NotWholeBytes (refuseIf (noTarget s h schema) Refusal.NoTarget Verdict.Pass))
       by true = refl
       by false = behind-verdict
-
-  pub verdict-behind : (ds : List Declaration) → tooMany ds ≡ false → duplicateName s ds ≡ false → unknownName s ds ≡ false → outOfRange ds ≡ false
-      → verdict s h ds schema ≡ sizesVerdict (checkSizes s h schema)
-  unfolding verdict
-  verdict-behind ds many twice names numbers = rw (verdict, many, twice, names, numbers) (sym sizes-verdict)

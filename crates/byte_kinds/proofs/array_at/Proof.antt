@@ -1,7 +1,8 @@
--- `byte_kinds::array_at` meets its contract, by the laws of Steps.
+-- `byte_kinds::array_at` meets its contract, by the laws of Screens and Steps.
 -- Assumes nothing.
 use Rattle.names.proofs.Steps.{via}
-use Rattle.definitions.specs.Record.{arrayAt}
+use Rattle.keywords.proofs.Screened.{through}
+use Rattle.byte_kinds.proofs.Screens.{array-steps}
 use borrow.Author.Needs.{needs}
 use Rattle.byte_kinds.proofs.array_at.Statement.{statement}
 use Rattle.byte_kinds.proofs.array_at.Tie as tie
@@ -19,8 +20,7 @@ enum-told : tie.Need-enum-told
 enum-told c = search needs
 
 returns : tie.Need-returns
-unfolding arrayAt
-returns c = search (via, needs)
+returns c = search (array-steps, via, through, needs)
 
 slice-aggregate-maybe-number-line : tie.Need-slice-aggregate-maybe-number-line
 slice-aggregate-maybe-number-line c = search needs
@@ -35,8 +35,7 @@ enum-told-2 : tie.Need-enum-told-2
 enum-told-2 c = search needs
 
 returns-2 : tie.Need-returns-2
-unfolding arrayAt
-returns-2 c = search (via, needs)
+returns-2 c = search (array-steps, via, through, needs)
 
 slice-aggregate-maybe-name-line : tie.Need-slice-aggregate-maybe-name-line
 slice-aggregate-maybe-name-line c = search needs
@@ -51,15 +50,13 @@ enum-told-3 : tie.Need-enum-told-3
 enum-told-3 c = search needs
 
 returns-3 : tie.Need-returns-3
-unfolding arrayAt
-returns-3 c = search (via, needs)
+returns-3 c = search (array-steps, via, through, needs)
 
 array-rest-requires : tie.Need-array-rest-requires
 array-rest-requires c κs = search needs
 
 returns-4 : tie.Need-returns-4
-unfolding arrayAt
-returns-4 c = search (via, needs)
+returns-4 c = search (array-steps, via, through, needs)
 
 pub array-at-spec : {M : Type 1} → statement M
 array-at-spec =

@@ -1,7 +1,7 @@
 -- `byte_kinds::array_rest` meets its contract, by the laws of Steps.
 -- Assumes nothing.
 use Rattle.names.proofs.Steps.{via}
-use Rattle.definitions.specs.Record.{arrayRest}
+use Rattle.byte_kinds.specs.Arrays.{arrayRest}
 use borrow.Author.Needs.{needs}
 use Rattle.byte_kinds.proofs.array_rest.Statement.{statement}
 use Rattle.byte_kinds.proofs.array_rest.Tie as tie

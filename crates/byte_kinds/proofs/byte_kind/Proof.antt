@@ -1,6 +1,7 @@
--- `byte_kinds::byte_kind` meets its contract, by the law of a chain of keys (Steps).
+-- `byte_kinds::byte_kind` meets its contract, by the laws of Screens.
 -- Assumes nothing.
-use Rattle.names.proofs.Steps.{chain}
+use Rattle.keywords.proofs.Screened.{desc-chain}
+use Rattle.byte_kinds.proofs.Screens.{body-steps}
 use borrow.Author.Needs.{needs}
 use Rattle.byte_kinds.proofs.byte_kind.Statement.{statement}
 use Rattle.byte_kinds.proofs.byte_kind.Tie as tie
@@ -18,7 +19,7 @@ array-at-requires : tie.Need-array-at-requires
 array-at-requires c κs = search needs
 
 returns : tie.Need-returns
-returns c = search (chain, needs) depth 8
+returns c = search (desc-chain, body-steps, needs)
 
 enum-told : tie.Need-enum-told
 enum-told c = search needs
@@ -36,7 +37,7 @@ payload-at-requires : tie.Need-payload-at-requires
 payload-at-requires c κs = search needs
 
 returns-2 : tie.Need-returns-2
-returns-2 c = search (chain, needs) depth 8
+returns-2 c = search (desc-chain, body-steps, needs)
 
 enum-told-2 : tie.Need-enum-told-2
 enum-told-2 c = search needs
@@ -51,7 +52,7 @@ enum-known-p-3 : tie.Need-enum-known-p-3
 enum-known-p-3 c = search needs
 
 returns-3 : tie.Need-returns-3
-returns-3 c = search (chain, needs) depth 8
+returns-3 c = search (desc-chain, body-steps, needs)
 
 enum-told-3 : tie.Need-enum-told-3
 enum-told-3 c = search needs
@@ -69,7 +70,7 @@ padding-at-requires : tie.Need-padding-at-requires
 padding-at-requires c κs = search needs
 
 returns-4 : tie.Need-returns-4
-returns-4 c = search (chain, needs) depth 8
+returns-4 c = search (desc-chain, body-steps, needs)
 
 enum-told-4 : tie.Need-enum-told-4
 enum-told-4 c = search needs
@@ -87,13 +88,13 @@ checksum-at-requires : tie.Need-checksum-at-requires
 checksum-at-requires c κs = search needs
 
 returns-5 : tie.Need-returns-5
-returns-5 c = search (chain, needs) depth 8
+returns-5 c = search (desc-chain, body-steps, needs)
 
 enum-told-5 : tie.Need-enum-told-5
 enum-told-5 c = search needs
 
 returns-6 : tie.Need-returns-6
-returns-6 c = search (chain, needs) depth 8
+returns-6 c = search (desc-chain, body-steps, needs)
 
 pub byte-kind-spec : {M : Type 1} → statement M
 byte-kind-spec =

@@ -1,7 +1,8 @@
--- `byte_kinds::checksum_at` meets its contract, by the laws of Steps.
+-- `byte_kinds::checksum_at` meets its contract, by the laws of Screens and Steps.
 -- Assumes nothing.
 use Rattle.names.proofs.Steps.{via}
-use Rattle.definitions.specs.Record.{checksumAt}
+use Rattle.keywords.proofs.Screened.{through}
+use Rattle.byte_kinds.proofs.Screens.{checksum-steps}
 use borrow.Author.Needs.{needs}
 use Rattle.byte_kinds.proofs.checksum_at.Statement.{statement}
 use Rattle.byte_kinds.proofs.checksum_at.Tie as tie
@@ -12,19 +13,26 @@ slice-aggregate-name-line c = search needs
 name-line-requires : tie.Need-name-line-requires
 name-line-requires c κs = search needs
 
-enum-known-field-id : tie.Need-enum-known-field-id
-enum-known-field-id c = search needs
+enum-known-name : tie.Need-enum-known-name
+enum-known-name c = search needs
 
 enum-told : tie.Need-enum-told
 enum-told c = search needs
 
 returns : tie.Need-returns
-unfolding checksumAt
-returns c = search (via, needs)
+returns c = search (checksum-steps, via, through, needs)
+
+enum-known-name-2 : tie.Need-enum-known-name-2
+enum-known-name-2 c = search needs
+
+enum-told-2 : tie.Need-enum-told-2
+enum-told-2 c = search needs
 
 returns-2 : tie.Need-returns-2
-unfolding checksumAt
-returns-2 c = search (via, needs)
+returns-2 c = search (checksum-steps, via, through, needs)
+
+returns-3 : tie.Need-returns-3
+returns-3 c = search (checksum-steps, via, through, needs)
 
 pub checksum-at-spec : {M : Type 1} → statement M
 checksum-at-spec =
@@ -32,7 +40,10 @@ checksum-at-spec =
     (tie.spec
     slice-aggregate-name-line
     name-line-requires
-    enum-known-field-id
+    enum-known-name
     enum-told
     returns
-    returns-2)
+    enum-known-name-2
+    enum-told-2
+    returns-2
+    returns-3)

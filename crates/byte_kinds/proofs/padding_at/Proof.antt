@@ -1,7 +1,7 @@
--- `byte_kinds::padding_at` meets its contract, by the laws of Steps.
+-- `byte_kinds::padding_at` meets its contract, by the laws of Screens and Steps.
 -- Assumes nothing.
 use Rattle.names.proofs.Steps.{via}
-use Rattle.definitions.specs.Record.{paddingAt}
+use Rattle.byte_kinds.proofs.Screens.{padding-steps}
 use borrow.Author.Needs.{needs}
 use Rattle.byte_kinds.proofs.padding_at.Statement.{statement}
 use Rattle.byte_kinds.proofs.padding_at.Tie as tie
@@ -19,12 +19,10 @@ enum-told : tie.Need-enum-told
 enum-told c = search needs
 
 returns : tie.Need-returns
-unfolding paddingAt
-returns c = search (via, needs)
+returns c = search (padding-steps, via, needs)
 
 returns-2 : tie.Need-returns-2
-unfolding paddingAt
-returns-2 c = search (via, needs)
+returns-2 c = search (padding-steps, via, needs)
 
 pub padding-at-spec : {M : Type 1} → statement M
 padding-at-spec =

@@ -1,7 +1,7 @@
--- `byte_kinds::payload_at` meets its contract, by the laws of Steps.
+-- `byte_kinds::payload_at` meets its contract, by the laws of Screens and Steps.
 -- Assumes nothing.
 use Rattle.names.proofs.Steps.{via}
-use Rattle.definitions.specs.Record.{payloadAt}
+use Rattle.byte_kinds.proofs.Screens.{payload-steps}
 use borrow.Author.Needs.{needs}
 use Rattle.byte_kinds.proofs.payload_at.Statement.{statement}
 use Rattle.byte_kinds.proofs.payload_at.Tie as tie
@@ -19,12 +19,10 @@ enum-told : tie.Need-enum-told
 enum-told c = search needs
 
 returns : tie.Need-returns
-unfolding payloadAt
-returns c = search (via, needs)
+returns c = search (payload-steps, via, needs)
 
 returns-2 : tie.Need-returns-2
-unfolding payloadAt
-returns-2 c = search (via, needs)
+returns-2 c = search (payload-steps, via, needs)
 
 pub payload-at-spec : {M : Type 1} → statement M
 payload-at-spec =

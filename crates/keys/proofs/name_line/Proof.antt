@@ -1,7 +1,7 @@
--- `keys::name_line` meets its contract, by the laws of Steps.
+-- `keys::name_line` meets its contract, by the laws of Screens and Steps.
 -- Assumes nothing.
 use Rattle.names.proofs.Steps.{via}
-use Rattle.definitions.specs.Record.{nameLine}
+use Rattle.keys.proofs.Screens.{name-steps}
 use borrow.Author.Needs.{needs}
 use Rattle.keys.proofs.name_line.Statement.{statement}
 use Rattle.keys.proofs.name_line.Tie as tie
@@ -16,15 +16,13 @@ enum-told : tie.Need-enum-told
 enum-told c = search needs
 
 returns : tie.Need-returns
-unfolding nameLine
-returns c = search (via, needs)
+returns c = search (name-steps, via, needs)
 
 name-at-requires : tie.Need-name-at-requires
 name-at-requires c κs = search needs
 
 returns-2 : tie.Need-returns-2
-unfolding nameLine
-returns-2 c = search (via, needs)
+returns-2 c = search (name-steps, via, needs)
 
 pub name-line-spec : {M : Type 1} → statement M
 name-line-spec =

@@ -24,7 +24,7 @@ number-kind-requires : tie.Need-number-kind-requires
 number-kind-requires c κs = search needs
 
 returns-2 : tie.Need-returns-2
-returns-2 c = search (by-word, needs)
+returns-2 c = search (no-field, by-word, needs)
 
 pub desc-at-spec : {M : Type 1} → statement M
 desc-at-spec =

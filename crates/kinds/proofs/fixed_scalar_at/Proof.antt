@@ -1,7 +1,7 @@
--- `kinds::fixed_scalar_at` meets its contract, by the laws of Steps.
+-- `kinds::fixed_scalar_at` meets its contract, by the laws of Screens and Steps.
 -- Assumes nothing.
 use Rattle.names.proofs.Steps.{via}
-use Rattle.definitions.specs.Record.{fixedScalarAt}
+use Rattle.kinds.proofs.Screens.{fixed-scalar-steps}
 use borrow.Author.Needs.{needs}
 use Rattle.kinds.proofs.fixed_scalar_at.Statement.{statement}
 use Rattle.kinds.proofs.fixed_scalar_at.Tie as tie
@@ -19,8 +19,7 @@ enum-told : tie.Need-enum-told
 enum-told c = search needs
 
 returns : tie.Need-returns
-unfolding fixedScalarAt
-returns c = search (via, needs)
+returns c = search (fixed-scalar-steps, via, needs)
 
 slice-aggregate-number-line-2 : tie.Need-slice-aggregate-number-line-2
 slice-aggregate-number-line-2 c = search needs
@@ -35,12 +34,10 @@ enum-told-2 : tie.Need-enum-told-2
 enum-told-2 c = search needs
 
 returns-2 : tie.Need-returns-2
-unfolding fixedScalarAt
-returns-2 c = search (via, needs)
+returns-2 c = search (fixed-scalar-steps, via, needs)
 
 returns-3 : tie.Need-returns-3
-unfolding fixedScalarAt
-returns-3 c = search (via, needs)
+returns-3 c = search (fixed-scalar-steps, via, needs)
 
 pub fixed-scalar-at-spec : {M : Type 1} → statement M
 fixed-scalar-at-spec =

@@ -1,6 +1,6 @@
--- `kinds::number_kind` meets its contract, by the law of a chain of keys (Steps).
+-- `kinds::number_kind` meets its contract, by the law of a chain of keys (Screened).
 -- Assumes nothing.
-use Rattle.names.proofs.Steps.{chain}
+use Rattle.keywords.proofs.Screened.{desc-chain}
 use Rattle.definitions.specs.Record.{scalarAt, sizeAt, countAt, elementSizeAt}
 use borrow.Author.Needs.{needs}
 use Rattle.kinds.proofs.number_kind.Statement.{statement}
@@ -23,7 +23,7 @@ named-width-requires c κs = search needs
 
 returns : tie.Need-returns
 unfolding scalarAt
-returns c = search (chain, needs) depth 8
+returns c = search (desc-chain, needs) depth 8
 
 enum-told : tie.Need-enum-told
 enum-told c = search needs
@@ -45,7 +45,7 @@ named-width-requires-2 c κs = search needs
 
 returns-2 : tie.Need-returns-2
 unfolding sizeAt
-returns-2 c = search (chain, needs) depth 8
+returns-2 c = search (desc-chain, needs) depth 8
 
 enum-told-2 : tie.Need-enum-told-2
 enum-told-2 c = search needs
@@ -67,7 +67,7 @@ named-width-requires-3 c κs = search needs
 
 returns-3 : tie.Need-returns-3
 unfolding countAt
-returns-3 c = search (chain, needs) depth 8
+returns-3 c = search (desc-chain, needs) depth 8
 
 enum-told-3 : tie.Need-enum-told-3
 enum-told-3 c = search needs
@@ -89,7 +89,7 @@ named-width-requires-4 c κs = search needs
 
 returns-4 : tie.Need-returns-4
 unfolding elementSizeAt
-returns-4 c = search (chain, needs) depth 8
+returns-4 c = search (desc-chain, needs) depth 8
 
 enum-told-4 : tie.Need-enum-told-4
 enum-told-4 c = search needs
@@ -107,7 +107,7 @@ fixed-scalar-at-requires : tie.Need-fixed-scalar-at-requires
 fixed-scalar-at-requires c κs = search needs
 
 returns-5 : tie.Need-returns-5
-returns-5 c = search (chain, needs) depth 8
+returns-5 c = search (desc-chain, needs) depth 8
 
 enum-told-5 : tie.Need-enum-told-5
 enum-told-5 c = search needs
@@ -116,7 +116,7 @@ symbol-kind-requires : tie.Need-symbol-kind-requires
 symbol-kind-requires c κs = search needs
 
 returns-6 : tie.Need-returns-6
-returns-6 c = search (chain, needs) depth 8
+returns-6 c = search (desc-chain, needs) depth 8
 
 pub number-kind-spec : {M : Type 1} → statement M
 number-kind-spec =

@@ -1,7 +1,7 @@
--- `kinds::reserved_at` meets its contract, by the laws of Steps.
+-- `kinds::reserved_at` meets its contract, by the laws of Screens and Steps.
 -- Assumes nothing.
 use Rattle.names.proofs.Steps.{via}
-use Rattle.definitions.specs.Record.{reservedAt}
+use Rattle.kinds.proofs.Screens.{reserved-steps}
 use borrow.Author.Needs.{needs}
 use Rattle.kinds.proofs.reserved_at.Statement.{statement}
 use Rattle.kinds.proofs.reserved_at.Tie as tie
@@ -19,12 +19,10 @@ enum-told : tie.Need-enum-told
 enum-told c = search needs
 
 returns : tie.Need-returns
-unfolding reservedAt
-returns c = search (via, needs)
+returns c = search (reserved-steps, via, needs)
 
 returns-2 : tie.Need-returns-2
-unfolding reservedAt
-returns-2 c = search (via, needs)
+returns-2 c = search (reserved-steps, via, needs)
 
 pub reserved-at-spec : {M : Type 1} → statement M
 reserved-at-spec =

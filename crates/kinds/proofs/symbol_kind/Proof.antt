@@ -1,6 +1,6 @@
--- `kinds::symbol_kind` meets its contract, by the law of a chain of keys (Steps).
+-- `kinds::symbol_kind` meets its contract, by the law of a chain of keys (Screened).
 -- Assumes nothing.
-use Rattle.names.proofs.Steps.{chain}
+use Rattle.keywords.proofs.Screened.{desc-chain}
 use borrow.Author.Needs.{needs}
 use Rattle.kinds.proofs.symbol_kind.Statement.{statement}
 use Rattle.kinds.proofs.symbol_kind.Tie as tie
@@ -18,7 +18,7 @@ fixed-enum-at-requires : tie.Need-fixed-enum-at-requires
 fixed-enum-at-requires c κs = search needs
 
 returns : tie.Need-returns
-returns c = search (chain, needs) depth 8
+returns c = search (desc-chain, needs) depth 8
 
 enum-told : tie.Need-enum-told
 enum-told c = search needs
@@ -36,7 +36,7 @@ reserved-at-requires : tie.Need-reserved-at-requires
 reserved-at-requires c κs = search needs
 
 returns-2 : tie.Need-returns-2
-returns-2 c = search (chain, needs) depth 8
+returns-2 c = search (desc-chain, needs) depth 8
 
 enum-told-2 : tie.Need-enum-told-2
 enum-told-2 c = search needs
@@ -54,7 +54,7 @@ flag-at-requires : tie.Need-flag-at-requires
 flag-at-requires c κs = search needs
 
 returns-3 : tie.Need-returns-3
-returns-3 c = search (chain, needs) depth 8
+returns-3 c = search (desc-chain, needs) depth 8
 
 enum-told-3 : tie.Need-enum-told-3
 enum-told-3 c = search needs
@@ -72,7 +72,7 @@ typedef-at-requires : tie.Need-typedef-at-requires
 typedef-at-requires c κs = search needs
 
 returns-4 : tie.Need-returns-4
-returns-4 c = search (chain, needs) depth 8
+returns-4 c = search (desc-chain, needs) depth 8
 
 enum-told-4 : tie.Need-enum-told-4
 enum-told-4 c = search needs
@@ -81,7 +81,7 @@ byte-kind-requires : tie.Need-byte-kind-requires
 byte-kind-requires c κs = search needs
 
 returns-5 : tie.Need-returns-5
-returns-5 c = search (chain, needs) depth 8
+returns-5 c = search (desc-chain, needs) depth 8
 
 pub symbol-kind-spec : {M : Type 1} → statement M
 symbol-kind-spec =

@@ -1,7 +1,8 @@
--- `kinds::typedef_at` meets its contract, by the laws of Steps.
+-- `kinds::typedef_at` meets its contract, by the laws of Screens and Steps.
 -- Assumes nothing.
 use Rattle.names.proofs.Steps.{via}
-use Rattle.definitions.specs.Record.{typedefAt}
+use Rattle.keywords.proofs.Screened.{through}
+use Rattle.kinds.proofs.Screens.{typedef-steps}
 use borrow.Author.Needs.{needs}
 use Rattle.kinds.proofs.typedef_at.Statement.{statement}
 use Rattle.kinds.proofs.typedef_at.Tie as tie
@@ -12,15 +13,14 @@ slice-aggregate-name-line c = search needs
 name-line-requires : tie.Need-name-line-requires
 name-line-requires c κs = search needs
 
-enum-known-id : tie.Need-enum-known-id
-enum-known-id c = search needs
+enum-known-name : tie.Need-enum-known-name
+enum-known-name c = search needs
 
 enum-told : tie.Need-enum-told
 enum-told c = search needs
 
 returns : tie.Need-returns
-unfolding typedefAt
-returns c = search (via, needs)
+returns c = search (typedef-steps, via, through, needs)
 
 slice-aggregate-name-line-2 : tie.Need-slice-aggregate-name-line-2
 slice-aggregate-name-line-2 c = search needs
@@ -28,19 +28,35 @@ slice-aggregate-name-line-2 c = search needs
 name-line-requires-2 : tie.Need-name-line-requires-2
 name-line-requires-2 c κs = search needs
 
-enum-known-type-id : tie.Need-enum-known-type-id
-enum-known-type-id c = search needs
+enum-known-type-name : tie.Need-enum-known-type-name
+enum-known-type-name c = search needs
 
 enum-told-2 : tie.Need-enum-told-2
 enum-told-2 c = search needs
 
 returns-2 : tie.Need-returns-2
-unfolding typedefAt
-returns-2 c = search (via, needs)
+returns-2 c = search (typedef-steps, via, through, needs)
+
+enum-known-name-2 : tie.Need-enum-known-name-2
+enum-known-name-2 c = search needs
+
+enum-told-3 : tie.Need-enum-told-3
+enum-told-3 c = search needs
 
 returns-3 : tie.Need-returns-3
-unfolding typedefAt
-returns-3 c = search (via, needs)
+returns-3 c = search (typedef-steps, via, through, needs)
+
+enum-known-type-name-2 : tie.Need-enum-known-type-name-2
+enum-known-type-name-2 c = search needs
+
+enum-told-4 : tie.Need-enum-told-4
+enum-told-4 c = search needs
+
+returns-4 : tie.Need-returns-4
+returns-4 c = search (typedef-steps, via, through, needs)
+
+returns-5 : tie.Need-returns-5
+returns-5 c = search (typedef-steps, via, through, needs)
 
 pub typedef-at-spec : {M : Type 1} → statement M
 typedef-at-spec =
@@ -48,12 +64,18 @@ typedef-at-spec =
     (tie.spec
     slice-aggregate-name-line
     name-line-requires
-    enum-known-id
+    enum-known-name
     enum-told
     returns
     slice-aggregate-name-line-2
     name-line-requires-2
-    enum-known-type-id
+    enum-known-type-name
     enum-told-2
     returns-2
-    returns-3)
+    enum-known-name-2
+    enum-told-3
+    returns-3
+    enum-known-type-name-2
+    enum-told-4
+    returns-4
+    returns-5)

@@ -1,7 +1,8 @@
--- `readers::cond_at` meets its contract, by the laws of Steps.
+-- `readers::cond_at` meets its contract, by the laws of Screens and Steps.
 -- Assumes nothing.
 use Rattle.names.proofs.Steps.{via}
-use Rattle.definitions.specs.Record.{condAt}
+use Rattle.keywords.proofs.Screened.{through}
+use Rattle.readers.proofs.Screens.{cond-steps}
 use borrow.Author.Needs.{needs}
 use Rattle.readers.proofs.cond_at.Statement.{statement}
 use Rattle.readers.proofs.cond_at.Tie as tie
@@ -19,18 +20,13 @@ enum-told : tie.Need-enum-told
 enum-told c = search needs
 
 returns : tie.Need-returns
-unfolding condAt
-returns c = search (via, needs)
-
-enum-known-name-2 : tie.Need-enum-known-name-2
-enum-known-name-2 c = search needs
+returns c = search (cond-steps, via, through, needs)
 
 enum-told-2 : tie.Need-enum-told-2
 enum-told-2 c = search needs
 
-returns-2 : tie.Need-returns-2
-unfolding condAt
-returns-2 c = search (via, needs)
+enum-known-name-2 : tie.Need-enum-known-name-2
+enum-known-name-2 c = search needs
 
 slice-aggregate-number-line : tie.Need-slice-aggregate-number-line
 slice-aggregate-number-line c = search needs
@@ -44,13 +40,35 @@ enum-known-value c = search needs
 enum-told-3 : tie.Need-enum-told-3
 enum-told-3 c = search needs
 
+returns-2 : tie.Need-returns-2
+returns-2 c = search (cond-steps, via, through, needs)
+
+enum-told-4 : tie.Need-enum-told-4
+enum-told-4 c = search needs
+
+slice-aggregate-number-line-2 : tie.Need-slice-aggregate-number-line-2
+slice-aggregate-number-line-2 c = search needs
+
+number-line-requires-2 : tie.Need-number-line-requires-2
+number-line-requires-2 c κs = search needs
+
+enum-known-q : tie.Need-enum-known-q
+enum-known-q c = search needs
+
+enum-told-5 : tie.Need-enum-told-5
+enum-told-5 c = search needs
+
 returns-3 : tie.Need-returns-3
-unfolding condAt
-returns-3 c = search (via, needs)
+returns-3 c = search (cond-steps, via, through, needs)
 
 returns-4 : tie.Need-returns-4
-unfolding condAt
-returns-4 c = search (via, needs)
+returns-4 c = search (cond-steps, via, through, needs)
+
+returns-5 : tie.Need-returns-5
+returns-5 c = search (cond-steps, via, through, needs)
+
+returns-6 : tie.Need-returns-6
+returns-6 c = search (cond-steps, via, through, needs)
 
 pub cond-at-spec : {M : Type 1} → statement M
 cond-at-spec =
@@ -61,12 +79,19 @@ cond-at-spec =
     enum-known-name
     enum-told
     returns
-    enum-known-name-2
     enum-told-2
-    returns-2
+    enum-known-name-2
     slice-aggregate-number-line
     number-line-requires
     enum-known-value
     enum-told-3
+    returns-2
+    enum-told-4
+    slice-aggregate-number-line-2
+    number-line-requires-2
+    enum-known-q
+    enum-told-5
     returns-3
-    returns-4)
+    returns-4
+    returns-5
+    returns-6)

@@ -1,7 +1,7 @@
--- `readers::decl_at` meets its contract, by the law of a chain of keys (Steps).
+-- `readers::decl_at` meets its contract, by the laws of Screens.
 -- Assumes nothing.
 use Rattle.definitions.specs.Record.{declAt, packetAt, structAt}
-use Rattle.names.proofs.Steps.{chain}
+use Rattle.readers.proofs.Screens.{decl-chain}
 use borrow.Author.Needs.{needs}
 use Rattle.readers.proofs.decl_at.Statement.{statement}
 use Rattle.readers.proofs.decl_at.Tie as tie
@@ -20,7 +20,7 @@ parented-at-requires c κs = search needs
 
 returns : tie.Need-returns
 unfolding declAt packetAt
-returns c = search (chain, needs) depth 12
+returns c = search (decl-chain, needs) depth 12
 
 enum-told : tie.Need-enum-told
 enum-told c = search needs
@@ -39,7 +39,7 @@ parented-at-requires-2 c κs = search needs
 
 returns-2 : tie.Need-returns-2
 unfolding declAt structAt
-returns-2 c = search (chain, needs) depth 12
+returns-2 c = search (decl-chain, needs) depth 12
 
 enum-told-2 : tie.Need-enum-told-2
 enum-told-2 c = search needs
@@ -58,7 +58,7 @@ enum-at-requires c κs = search needs
 
 returns-3 : tie.Need-returns-3
 unfolding declAt
-returns-3 c = search (chain, needs) depth 12
+returns-3 c = search (decl-chain, needs) depth 12
 
 enum-told-3 : tie.Need-enum-told-3
 enum-told-3 c = search needs
@@ -77,7 +77,7 @@ checksum-decl-at-requires c κs = search needs
 
 returns-4 : tie.Need-returns-4
 unfolding declAt
-returns-4 c = search (chain, needs) depth 12
+returns-4 c = search (decl-chain, needs) depth 12
 
 enum-told-4 : tie.Need-enum-told-4
 enum-told-4 c = search needs
@@ -96,14 +96,14 @@ custom-at-requires c κs = search needs
 
 returns-5 : tie.Need-returns-5
 unfolding declAt
-returns-5 c = search (chain, needs) depth 12
+returns-5 c = search (decl-chain, needs) depth 12
 
 enum-told-5 : tie.Need-enum-told-5
 enum-told-5 c = search needs
 
 returns-6 : tie.Need-returns-6
 unfolding declAt
-returns-6 c = search (chain, needs) depth 12
+returns-6 c = search (decl-chain, needs) depth 12
 
 pub decl-at-spec : {M : Type 1} → statement M
 decl-at-spec =

@@ -1,7 +1,8 @@
--- `readers::enum_at` meets its contract, by the laws of Steps.
+-- `readers::enum_at` meets its contract, by the laws of Screens and Steps.
 -- Assumes nothing.
-use Rattle.definitions.specs.Record.{enumAt}
 use Rattle.names.proofs.Steps.{via}
+use Rattle.keywords.proofs.Screened.{through}
+use Rattle.readers.proofs.Screens.{enum-steps}
 use borrow.Author.Needs.{needs}
 use Rattle.readers.proofs.enum_at.Statement.{statement}
 use Rattle.readers.proofs.enum_at.Tie as tie
@@ -12,15 +13,14 @@ slice-aggregate-name-line c = search needs
 name-line-requires : tie.Need-name-line-requires
 name-line-requires c κs = search needs
 
-enum-known-id : tie.Need-enum-known-id
-enum-known-id c = search needs
+enum-known-name : tie.Need-enum-known-name
+enum-known-name c = search needs
 
 enum-told : tie.Need-enum-told
 enum-told c = search needs
 
 returns : tie.Need-returns
-unfolding enumAt
-returns c = search (via, needs) depth 12
+returns c = search (enum-steps, via, through, needs)
 
 slice-aggregate-number-line : tie.Need-slice-aggregate-number-line
 slice-aggregate-number-line c = search needs
@@ -35,8 +35,7 @@ enum-told-2 : tie.Need-enum-told-2
 enum-told-2 c = search needs
 
 returns-2 : tie.Need-returns-2
-unfolding enumAt
-returns-2 c = search (via, needs) depth 12
+returns-2 c = search (enum-steps, via, through, needs)
 
 slice-aggregate-bit-line : tie.Need-slice-aggregate-bit-line
 slice-aggregate-bit-line c = search needs
@@ -51,8 +50,7 @@ enum-told-3 : tie.Need-enum-told-3
 enum-told-3 c = search needs
 
 returns-3 : tie.Need-returns-3
-unfolding enumAt
-returns-3 c = search (via, needs) depth 12
+returns-3 c = search (enum-steps, via, through, needs)
 
 slice-aggregate-bit-line-2 : tie.Need-slice-aggregate-bit-line-2
 slice-aggregate-bit-line-2 c = search needs
@@ -67,12 +65,19 @@ enum-told-4 : tie.Need-enum-told-4
 enum-told-4 c = search needs
 
 returns-4 : tie.Need-returns-4
-unfolding enumAt
-returns-4 c = search (via, needs) depth 12
+returns-4 c = search (enum-steps, via, through, needs)
+
+enum-known-name-2 : tie.Need-enum-known-name-2
+enum-known-name-2 c = search needs
+
+enum-told-5 : tie.Need-enum-told-5
+enum-told-5 c = search needs
 
 returns-5 : tie.Need-returns-5
-unfolding enumAt
-returns-5 c = search (via, needs) depth 12
+returns-5 c = search (enum-steps, via, through, needs) depth 12
+
+returns-6 : tie.Need-returns-6
+returns-6 c = search (enum-steps, via, through, needs) depth 12
 
 pub enum-at-spec : {M : Type 1} → statement M
 enum-at-spec =
@@ -80,7 +85,7 @@ enum-at-spec =
     (tie.spec
     slice-aggregate-name-line
     name-line-requires
-    enum-known-id
+    enum-known-name
     enum-told
     returns
     slice-aggregate-number-line
@@ -98,4 +103,7 @@ enum-at-spec =
     enum-known-complete
     enum-told-4
     returns-4
-    returns-5)
+    enum-known-name-2
+    enum-told-5
+    returns-5
+    returns-6)

@@ -1,7 +1,7 @@
--- `readers::head_at` meets its contract, by the law of a chain of keys (Steps).
+-- `readers::head_at` meets its contract, by the laws of Screens.
 -- Assumes nothing.
-use Rattle.names.proofs.Steps.{chain}
 use Rattle.definitions.specs.Record.{headAt}
+use Rattle.readers.proofs.Screens.{head-chain}
 use borrow.Author.Needs.{needs}
 use Rattle.readers.proofs.head_at.Statement.{statement}
 use Rattle.readers.proofs.head_at.Tie as tie
@@ -20,7 +20,7 @@ target-at-requires c κs = search needs
 
 returns : tie.Need-returns
 unfolding headAt
-returns c = search (chain, needs)
+returns c = search (head-chain, needs)
 
 enum-told : tie.Need-enum-told
 enum-told c = search needs
@@ -39,14 +39,14 @@ target-at-requires-2 c κs = search needs
 
 returns-2 : tie.Need-returns-2
 unfolding headAt
-returns-2 c = search (chain, needs)
+returns-2 c = search (head-chain, needs)
 
 enum-told-2 : tie.Need-enum-told-2
 enum-told-2 c = search needs
 
 returns-3 : tie.Need-returns-3
 unfolding headAt
-returns-3 c = search (chain, needs)
+returns-3 c = search (head-chain, needs)
 
 pub head-at-spec : {M : Type 1} → statement M
 head-at-spec =

@@ -1,7 +1,8 @@
--- `readers::parented_at` meets its contract, by the laws of Steps and Parents.
+-- `readers::parented_at` meets its contract, by the laws of Screens and Steps.
 -- Assumes nothing.
 use Rattle.names.proofs.Steps.{via}
-use Rattle.readers.proofs.Parents.{parented-is}
+use Rattle.keywords.proofs.Screened.{through}
+use Rattle.readers.proofs.Screens.{parented-steps}
 use borrow.Author.Needs.{needs}
 use Rattle.readers.proofs.parented_at.Statement.{statement}
 use Rattle.readers.proofs.parented_at.Tie as tie
@@ -12,14 +13,14 @@ slice-aggregate-name-line c = search needs
 name-line-requires : tie.Need-name-line-requires
 name-line-requires c κs = search needs
 
-enum-known-id : tie.Need-enum-known-id
-enum-known-id c = search needs
+enum-known-name : tie.Need-enum-known-name
+enum-known-name c = search needs
 
 enum-told : tie.Need-enum-told
 enum-told c = search needs
 
 returns : tie.Need-returns
-returns c = search (via, needs)
+returns c = search (parented-steps, via, through, needs)
 
 slice-aggregate-maybe-name-line : tie.Need-slice-aggregate-maybe-name-line
 slice-aggregate-maybe-name-line c = search needs
@@ -27,26 +28,47 @@ slice-aggregate-maybe-name-line c = search needs
 maybe-name-line-requires : tie.Need-maybe-name-line-requires
 maybe-name-line-requires c κs = search needs
 
-enum-known-parent-id : tie.Need-enum-known-parent-id
-enum-known-parent-id c = search needs
+enum-known-parent : tie.Need-enum-known-parent
+enum-known-parent c = search needs
 
 enum-told-2 : tie.Need-enum-told-2
 enum-told-2 c = search needs
 
 returns-2 : tie.Need-returns-2
-returns-2 c = search (via, needs)
+returns-2 c = search (parented-steps, via, through, needs)
+
+enum-known-name-2 : tie.Need-enum-known-name-2
+enum-known-name-2 c = search needs
 
 enum-told-3 : tie.Need-enum-told-3
 enum-told-3 c = search needs
 
+returns-3 : tie.Need-returns-3
+returns-3 c = search (parented-steps, via, through, needs)
+
 enum-told-4 : tie.Need-enum-told-4
 enum-told-4 c = search needs
 
-returns-3 : tie.Need-returns-3
-returns-3 c = search (via, parented-is, needs)
+parented-of-requires : tie.Need-parented-of-requires
+parented-of-requires c κs = search needs
+
+enum-known-parent-2 : tie.Need-enum-known-parent-2
+enum-known-parent-2 c = search needs
+
+parented-of-requires-2 : tie.Need-parented-of-requires-2
+parented-of-requires-2 c κs = search needs
+
+enum-told-5 : tie.Need-enum-told-5
+enum-told-5 c = search needs
 
 returns-4 : tie.Need-returns-4
-returns-4 c = search (via, parented-is, needs)
+returns-4 c = search (parented-steps, via, through, needs)
+
+returns-5 : tie.Need-returns-5
+returns-5 c = search (parented-steps, via, through, needs)
+
+returns-6 : tie.Need-returns-6
+returns-6 c = search (parented-steps, via, through, needs)
 
 pub parented-at-spec : {M : Type 1} → statement M
 parented-at-spec =
@@ -54,15 +76,22 @@ parented-at-spec =
     (tie.spec
     slice-aggregate-name-line
     name-line-requires
-    enum-known-id
+    enum-known-name
     enum-told
     returns
     slice-aggregate-maybe-name-line
     maybe-name-line-requires
-    enum-known-parent-id
+    enum-known-parent
     enum-told-2
     returns-2
+    enum-known-name-2
     enum-told-3
-    enum-told-4
     returns-3
-    returns-4)
+    enum-told-4
+    parented-of-requires
+    enum-known-parent-2
+    parented-of-requires-2
+    enum-told-5
+    returns-4
+    returns-5
+    returns-6)

@@ -1,6 +1,8 @@
--- `readers::target_at` meets its contract, by the laws of Steps.
+-- `readers::target_at` meets its contract, by the laws of Screens and Steps.
 -- Assumes nothing.
 use Rattle.names.proofs.Steps.{via}
+use Rattle.keywords.proofs.Screened.{through}
+use Rattle.readers.proofs.Screens.{target-steps}
 use borrow.Author.Needs.{needs}
 use Rattle.readers.proofs.target_at.Statement.{statement}
 use Rattle.readers.proofs.target_at.Tie as tie
@@ -18,7 +20,7 @@ enum-told : tie.Need-enum-told
 enum-told c = search needs
 
 returns : tie.Need-returns
-returns c = search (via, needs)
+returns c = search (target-steps, via, through, needs)
 
 slice-aggregate-key-at : tie.Need-slice-aggregate-key-at
 slice-aggregate-key-at c = search needs
@@ -29,8 +31,11 @@ key-at-requires c κs = search needs
 enum-known-q : tie.Need-enum-known-q
 enum-known-q c = search needs
 
+head-of-requires : tie.Need-head-of-requires
+head-of-requires c κs = search needs
+
 returns-2 : tie.Need-returns-2
-returns-2 c = search (via, needs)
+returns-2 c = search (target-steps, via, through, needs)
 
 enum-told-2 : tie.Need-enum-told-2
 enum-told-2 c = search needs
@@ -44,14 +49,17 @@ key-at-requires-2 c κs = search needs
 enum-known-q-2 : tie.Need-enum-known-q-2
 enum-known-q-2 c = search needs
 
+head-of-requires-2 : tie.Need-head-of-requires-2
+head-of-requires-2 c κs = search needs
+
 returns-3 : tie.Need-returns-3
-returns-3 c = search (via, needs)
+returns-3 c = search (target-steps, via, through, needs)
 
 enum-told-3 : tie.Need-enum-told-3
 enum-told-3 c = search needs
 
 returns-4 : tie.Need-returns-4
-returns-4 c = search (via, needs)
+returns-4 c = search (target-steps, via, through, needs)
 
 pub target-at-spec : {M : Type 1} → statement M
 target-at-spec =
@@ -65,11 +73,13 @@ target-at-spec =
     slice-aggregate-key-at
     key-at-requires
     enum-known-q
+    head-of-requires
     returns-2
     enum-told-2
     slice-aggregate-key-at-2
     key-at-requires-2
     enum-known-q-2
+    head-of-requires-2
     returns-3
     enum-told-3
     returns-4)

@@ -1,0 +1,4 @@
+pub mod Among
+pub mod Lists
+pub mod Names
+pub mod Screened
