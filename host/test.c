@@ -1,7 +1,7 @@
 /*
  * Tests the exported function from C: the marked cases P1 to P13 of document 01, records that are empty, cut or damaged, names that are
- * keywords of C++ (16), buffers of every relevant size, and the cases of the stored sample, which the published Rust answered
- * (oracle/README.md, 'Cases').
+ * keywords of C++ (16), lines `bits` (17), buffers of every relevant size, and the cases of the stored sample, which the published Rust
+ * answered (oracle/README.md, 'Cases').
  *   test SAMPLE
  * The last line is 'N passed, M failed'; the exit status is 0 if nothing failed.
  */
@@ -247,6 +247,102 @@ static void test_keywords(void)
     expect_answer(joined(HEAD, LAMP, 32, "decl=packet\nname=int\nparent=-\n"), 16, "", "33 declarations,", "the last is called int");
 }
 
+/* ---- sizes that the record states: refusal 17 of document 02 */
+
+#define CHILD "decl=packet\nname=Base\nparent=-\nbits=8\n" SCALAR("b", "8") PAYLOAD "decl=packet\nname=Lamp\nparent=Base\n"
+
+/* What stands before a line `bits` and behind it, what it must say, and what it must not. */
+static const struct {
+    const char *label, *before, *behind, *right, *wrong[8];
+} sizes[] = {
+    {"nothing", LAMP, "", "0", {"1", "8", "dynamic", "unknown", "4294967296", "18446744073709551615"}},
+    {"a scalar", LAMP, SCALAR("x", "8"), "8", {"7", "9", "0", "1", "4294967304", "2147483656", "dynamic", "unknown"}},
+    {"4 bits", LAMP, SCALAR("x", "4"), "4", {"8", "0", "3"}},
+    {"an optional scalar", LAMP, OPTIONAL("x", "8"), "dynamic", {"8", "unknown", "2147483648", "2147483649"}},
+    {"an array with no size", LAMP, ARRAY("a", "8", "-"), "unknown", {"0", "dynamic", "2147483648", "2147483649"}},
+    {"an array", LAMP, ARRAY("a", "24", "5"), "120", {"24", "5", "15"}},
+    {"a payload alone", LAMP, PAYLOAD, "0", {"unknown", "dynamic"}},
+    {"a payload with a size", LAMP, PAYLOAD_SIZE PAYLOAD, "8", {"dynamic", "unknown"}},
+    {"a parent", CHILD, SCALAR("x", "16"), "16", {"24", "8", "unknown"}},
+    {"a struct as type", CELL LAMP, TYPEDEF("t", "Cell"), "8", {"0", "16"}},
+    {"another declaration", LAMP "decl=struct\nname=Late\nparent=-\n", SCALAR("x", "8"), "8", {"7", "dynamic"}},
+    {"a padded array", LAMP, ARRAY("a", "8", "2") PADDING("8"), "64", {"16", "80", "8"}},
+    {"a padded optional scalar", LAMP, OPTIONAL("x", "8") PADDING("8"), "64", {"dynamic", "8", "72"}},
+    {"a padded payload", LAMP, PAYLOAD PADDING("8"), "0", {"64", "unknown"}},
+    {"a padded padding", LAMP, PADDING("8") PADDING("2"), "16", {"0", "64", "80"}},
+};
+
+static const char *const no_values[] = {
+    "", "-", "00", "08", "+8", "-8", " 8", "8 ", "8\r", "0x8", "18446744073709551616", "18446744073709551624", "99999999999999999999",
+    "Dynamic", "dynamic ", "dynamics", "dynami", "Unknown", "unknow", "static", "8\nbits=8", "8\nbits=7", "8\n",
+};
+
+static const struct {
+    const char *place, *record;
+} no_places[] = {
+    {"before parent", HEAD "decl=packet\nname=Lamp\nbits=0\nparent=-\n"},
+    {"behind a field", HEAD LAMP SCALAR("x", "8") "bits=8\n"},
+    {"inside a field", HEAD LAMP "field=scalar\nid=x\nwidth=8\nbits=8\nif=-\n"},
+    {"in an enum", HEAD "decl=enum\nname=Mode\nwidth=8\nopen=0\ncomplete=0\nbits=8\n" LAMP},
+    {"in a checksum", HEAD "decl=checksum\nname=Crc\nwidth=8\nbits=8\n" LAMP},
+    {"in a custom", HEAD "decl=custom\nname=Blob\nwidth=-\nbits=dynamic\n" LAMP},
+    {"in the head", HEAD "bits=0\n" LAMP},
+    {"at the end, without its newline", HEAD LAMP "bits=0"},
+};
+
+/* A record with this line is answered so; once it agrees, by the lines of the record without it. */
+static void test_size(const char *label, const char *before, const char *value, const char *behind, uint32_t answer)
+{
+    static uint8_t text[RUPHWENQO_LINES_ROOM];
+    char record[1024];
+    size_t length = (size_t)snprintf(record, sizeof record, HEAD "%s%s", before, behind);
+    uint64_t number = lower((const uint8_t *)record, length, text, sizeof text);
+    size_t lines_length = answer == 0 ? ruphwenqo_length(number) : 0;
+
+    length = (size_t)snprintf(record, sizeof record, HEAD "%sbits=%s\n%s", before, value, behind);
+    expect(ruphwenqo_answer(number) == 0 && gives_in_every_room((const uint8_t *)record, length, answer, text, lines_length),
+           "%s, stated as %s", label, value);
+}
+
+/* P1 with a line `bits`, cut where the line begins and behind: accepted where the fields that are left come to what it says. */
+static void test_cut_stated(void)
+{
+    static const char record[] = HEAD LAMP "bits=16\n" SCALAR("amps", "12") RESERVED("4") PAYLOAD;
+    static const char bare[] = HEAD LAMP, line[] = HEAD LAMP "bits=16\n", half[] = HEAD LAMP "bits=16\n" SCALAR("amps", "12");
+    static const char run[] = HEAD LAMP "bits=16\n" SCALAR("amps", "12") RESERVED("4");
+    for (size_t length = strlen(bare); length < strlen(record); length++) {
+        uint32_t answer = length == strlen(bare) || length == strlen(run) ? 0 : 2;
+        const char *text = length == strlen(run) ? P1_RUN : "";
+        if (length == strlen(line) || length == strlen(half))
+            answer = 17;
+        expect(gives_in_every_room((const uint8_t *)record, length, answer, (const uint8_t *)text, strlen(text)),
+               "P1 with its size, cut behind %zu bytes", length);
+    }
+}
+
+static void test_sizes(void)
+{
+    for (size_t i = 0; i < sizeof sizes / sizeof sizes[0]; i++) {
+        test_size(sizes[i].label, sizes[i].before, sizes[i].right, sizes[i].behind, 0);
+        for (size_t k = 0; k < sizeof sizes[i].wrong / sizeof sizes[i].wrong[0] && sizes[i].wrong[k] != NULL; k++)
+            test_size(sizes[i].label, sizes[i].before, sizes[i].wrong[k], sizes[i].behind, 17);
+    }
+    for (size_t i = 0; i < sizeof no_values / sizeof no_values[0]; i++)
+        test_size("a scalar", LAMP, no_values[i], SCALAR("x", "8"), 2);
+    for (size_t i = 0; i < sizeof no_places / sizeof no_places[0]; i++)
+        expect_answer(no_places[i].record, 2, "", "a line `bits`", no_places[i].place);
+
+    /* 16, 3, 6 and 8 come before it, 9 and 10 behind it */
+    expect_answer(HEAD LAMP "bits=7\n" SCALAR("int", "8"), 16, "", "a wrong size", "and a keyword");
+    expect_answer(joined(HEAD LAMP "bits=7\n", SCALAR("x", "8"), 65, ""), 3, "", "a wrong size", "and 65 fields");
+    expect_answer(HEAD LAMP "bits=7\n" SCALAR("x", "65"), 6, "", "a wrong size", "and a width of 65");
+    expect_answer(HEAD LAMP "bits=7\n" ARRAY("a", "12", "2"), 8, "", "a wrong size", "and elements of 12 bits");
+    expect_answer("endian=little\ntarget=None\narrays=lite\n" LAMP "bits=7\n", 17, "", "a wrong size", "and no target");
+    expect_answer("endian=little\ntarget=None\narrays=lite\n" LAMP "bits=0\n", 9, "", "a right size", "and no target");
+    expect_answer(HEAD LAMP "bits=7\n" SCALAR("x", "8") SCALAR("y", "4"), 17, "", "a wrong size", "and an open chunk");
+    expect_answer(HEAD LAMP "bits=12\n" SCALAR("x", "8") SCALAR("y", "4"), 10, "", "a right size", "and an open chunk");
+}
+
 /* ---- the stored sample */
 
 /* The number that ends at the byte `stop`; *at goes behind it. Any other text ends the test. */
@@ -318,6 +414,8 @@ int main(int argc, char **argv)
     test_damaged();
     test_long();
     test_keywords();
+    test_cut_stated();
+    test_sizes();
     test_sample(sample, size);
     free(sample);
     printf("%u passed, %u failed\n", passed, failed);

@@ -24,8 +24,8 @@ extern "C" {
  * The number is the answer times 2^32 plus the length.
  *   answer 0       the lines, with a newline behind each, are the first `length` bytes of out; the bytes behind them are unchanged.
  *                  There is no 0 byte at the end. A length of 0 is an accepted record that has no lines.
- *   answer 1 to 16 the first refusal that the record meets; the length is 0 and no byte of out is changed. They are tested in the order
- *                  1, 2, 16, 3 to 9, each over the whole record, then 10 to 14 field by field, 15 last:
+ *   answer 1 to 17 the first refusal that the record meets; the length is 0 and no byte of out is changed. They are tested in the order
+ *                  1, 2, 16, 3 to 8, 17, 9, each over the whole record, then 10 to 14 field by field, 15 last:
  *
  *    1  the record is empty or longer than 16,384 bytes
  *    2  a line breaks the record form
@@ -44,6 +44,7 @@ extern "C" {
  *   14  a later field is not static, where a trailing size is needed
  *   15  the lines are longer than out_len bytes
  *   16  a name of the record is a keyword of C++17, as `register` or `xor`: docs/RECORD.md lists the 84 words
+ *   17  a line `bits` is not its declaration's own size, without its parents and its payload: docs/RECORD.md, 'bits'
  *
  * The two ranges must not overlap, and must stay as they are during the call. Neither pointer may be null, also where its length is 0.
  */

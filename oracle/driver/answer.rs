@@ -1,4 +1,4 @@
-//! The answer to any byte string: our refusals 1 to 9 and 16, then what the published Rust gives.
+//! The answer to any byte string: our refusals 1 to 9, 16 and 17, then what the published Rust gives.
 
 use crate::analyzer::{Schema, Scope};
 use crate::backends::cxx::field_parser::{self, Panic};
@@ -10,7 +10,7 @@ use crate::sizes::Tables;
 /// What the program `lower` lends.
 pub const BUFFER: usize = 65_536;
 
-/// The lines as bytes, each with its newline, or the first of refusals 1 to 14 and 16.
+/// The lines as bytes, each with its newline, or the first of refusals 1 to 14, 16 and 17.
 pub type Answer = Result<Vec<u8>, Refusal>;
 
 /// The answer; on the way our tables of sizes are checked against the published ones.

@@ -5,7 +5,8 @@ use crate::analyzer::{self, ArraySize, ElementSize, Schema, Scope};
 use crate::answer::Answer;
 use crate::keywords::is_like_a_keyword;
 use crate::published;
-use crate::record::{Arrays, Decl, DeclDesc, Element, Endian, Field, FieldDesc, Record};
+use crate::record::{Arrays, Decl, DeclDesc, Element, Endian, Field, FieldDesc, Record, Stated};
+use crate::sizes::{unpadded, DeclSizes, Size, Tables};
 use std::collections::BTreeSet;
 
 pub fn features(bytes: &[u8], answer: &Answer) -> BTreeSet<String> {
@@ -21,6 +22,9 @@ pub fn features(bytes: &[u8], answer: &Answer) -> BTreeSet<String> {
             found.insert(format!("because {:02} {}", refusal.number, refusal.because));
             if let (10..=14, Ok(record)) = (refusal.number, Record::read(bytes)) {
                 of_target(&record, "refused", &mut found);
+            }
+            if let (17, Ok(record)) = (refusal.number, Record::read(bytes)) {
+                found.extend(misstated(&record));
             }
         }
     }
@@ -40,6 +44,7 @@ fn of_accepted(record: &Record, lines: &[u8], found: &mut BTreeSet<String>) {
     found.extend(target(record).map(|decl| format!("target {}", decl.kind())));
     let like_a_keyword = record.names().into_iter().filter(|(_, name)| is_like_a_keyword(name));
     found.extend(like_a_keyword.map(|(key, _)| format!("like a keyword: {key}")));
+    found.extend(stated(record));
     of_target(record, "accepted", found);
     found.extend(array_shapes(record));
     found.extend(reads(lines));
@@ -92,6 +97,58 @@ fn decl_kind(decl: &Decl) -> &'static str {
 
 fn has_parent(decl: &Decl) -> bool {
     decl.block().is_some_and(|block| block.parent.is_some())
+}
+
+/// The declarations with a line `bits`, with what it says and with their sizes.
+fn stated_sizes<'a>(record: &'a Record, tables: &'a Tables) -> Vec<(&'a Decl, Stated, &'a DeclSizes)> {
+    let entries = record.decls.iter().zip(&tables.0);
+    entries.filter_map(|(decl, sizes)| Some((decl, decl.stated()?, sizes))).collect()
+}
+
+/// The lines `bits` of an accepted record: what they say, and where that is not what one might think.
+fn stated(record: &Record) -> Vec<String> {
+    let tables = Tables::new(record);
+    let of_one = |(decl, stated, sizes): (&Decl, Stated, &DeclSizes)| {
+        let said = match stated {
+            Stated::Bits(_) => "a number",
+            Stated::Dynamic => "dynamic",
+            Stated::Unknown => "unknown",
+        };
+        let notes = [
+            (decl.name == record.target, "the target's"),
+            (decl.name != record.target, "another's"),
+            (sizes.decl != sizes.total(), "not the total size"),
+            (sizes.decl != unpadded(decl, sizes), "with a padding"),
+        ];
+        let notes = notes.into_iter().filter_map(|(holds, note)| holds.then_some(note));
+        notes.chain([said]).map(|note| format!("bits {note}")).collect::<Vec<_>>()
+    };
+    stated_sizes(record, &tables).into_iter().flat_map(of_one).collect()
+}
+
+/// What the first wrong line `bits` of a record says instead of its declaration's own size.
+fn misstated(record: &Record) -> Vec<String> {
+    let tables = Tables::new(record);
+    let value = |stated| match stated {
+        Stated::Bits(number) => Size::Static(number.into()),
+        Stated::Dynamic => Size::Dynamic,
+        Stated::Unknown => Size::Unknown,
+    };
+    let all = stated_sizes(record, &tables);
+    let wrong = all.into_iter().find(|(_, stated, sizes)| value(*stated) != sizes.decl);
+    let (decl, stated, sizes) = wrong.expect("it was refused by 17");
+    let said = value(stated);
+    let near = |(said, own): (u128, u128)| said.abs_diff(own) == 1;
+    let notes = [
+        (decl.name == record.target, "the target's"),
+        (decl.name != record.target, "another's"),
+        (said == sizes.total(), "the total size"),
+        (said == unpadded(decl, sizes), "without paddings"),
+        (said.bits().zip(sizes.decl.bits()).is_some_and(near), "one more or less"),
+        (said.bits().is_some_and(|bits| bits > (1 << 31) - 1), "2^31 or more"),
+    ];
+    let notes = notes.into_iter().filter_map(|(holds, note)| holds.then_some(note));
+    notes.map(|note| format!("wrong bits {note}")).collect()
 }
 
 /// The shapes of the target's arrays, alone and with their kind of element.

@@ -1,11 +1,13 @@
 //! Records by chance, from a seed. They follow the grammar of document 01 and lean towards
 //! acceptance: runs mostly fill whole octets, names are few so that fields really name each other.
-//! No name is a keyword of C++ but in the flavour that is about names.
+//! No name is a keyword of C++ but in the flavour that is about names, and no line `bits` stands but in
+//! the one that is about sizes as they are stated.
 
 use crate::damage;
 use crate::names;
 use crate::random::Random;
 use crate::sketch::{self, DeclSketch, Sketch};
+use crate::stated;
 
 #[derive(Clone, Copy)]
 pub enum Flavour {
@@ -20,14 +22,18 @@ pub enum Flavour {
     /// All of these with keywords of C++ and words like them as names. It stands behind the others,
     /// whose records are what they are without it.
     Names,
+    /// Small, mixed and large ones whose packets and structs have lines `bits`: right, wrong and broken
+    /// ones. No other flavour has such lines, and it stands behind them as `Names` does.
+    Stated,
 }
 
-pub const FLAVOURS: [(&str, Flavour); 5] = [
+pub const FLAVOURS: [(&str, Flavour); 6] = [
     ("small", Flavour::Small),
     ("mixed", Flavour::Mixed),
     ("damaged", Flavour::Damaged),
     ("sizes", Flavour::Sizes),
     ("names", Flavour::Names),
+    ("stated", Flavour::Stated),
 ];
 
 /// The records of a seed, one after the other.
@@ -46,6 +52,7 @@ fn record(flavour: Flavour, random: &mut Random) -> Vec<u8> {
         }
         Flavour::Sizes => near_the_largest_size(random).bytes(),
         Flavour::Names => renamed(random),
+        Flavour::Stated => with_sizes(random),
     }
 }
 
@@ -58,6 +65,25 @@ fn renamed(random: &mut Random) -> Vec<u8> {
     let mut lines = whole.lines();
     names::rename(&mut lines, random);
     if random.once_in(8) {
+        return damage::damaged(lines, random);
+    }
+    sketch::joined(&lines)
+}
+
+fn with_sizes(random: &mut Random) -> Vec<u8> {
+    let mut whole = match random.below(16) {
+        0 => near_the_largest_size(random),
+        1..=4 => mixed(random),
+        _ => small(random),
+    };
+    if random.once_in(3) {
+        stated::pad(&mut whole, random);
+    }
+    let mut lines = stated::lines(&whole, random);
+    if random.once_in(32) {
+        names::rename(&mut lines, random);
+    }
+    if random.once_in(12) {
         return damage::damaged(lines, random);
     }
     sketch::joined(&lines)

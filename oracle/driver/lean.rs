@@ -76,8 +76,8 @@ impl<'a> Values<'a> {
         self.ahead.map(|_| self.next())
     }
 
-    fn is_field(&self) -> bool {
-        self.ahead.is_some_and(|line| line.starts_with("field="))
+    fn is(&self, key: &str) -> bool {
+        self.ahead.is_some_and(|line| line.starts_with(key))
     }
 }
 
@@ -94,8 +94,11 @@ fn decl(kind: &str, values: &mut Values, keys: &mut usize) -> ast::DeclDesc {
         "custom" => ast::DeclDesc::CustomField { id, function, width: values.optional_number() },
         _ => {
             let parent_id = values.optional_text();
+            if values.is("bits=") {
+                values.next();
+            }
             let mut fields = Vec::new();
-            while values.is_field() {
+            while values.is("field=") {
                 fields.push(field(values, *keys));
                 *keys += 1;
             }

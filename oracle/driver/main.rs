@@ -22,6 +22,7 @@ mod histogram;
 mod keywords;
 mod lean;
 mod marked;
+mod marked_bits;
 mod names;
 #[cfg(port)]
 mod port;
@@ -31,6 +32,7 @@ mod record;
 mod refusals;
 mod sizes;
 mod sketch;
+mod stated;
 mod timing;
 
 use answer::{answer, Answer, BUFFER};
@@ -49,8 +51,9 @@ judge record SHORTHAND > RECORD      a record, as in 'little Lamp lite; packet L
 judge words                          the keywords of refusal 16, one a line
 judge marked > CASES                 the marked cases of document 01, its faults and its limits
 judge keywords > CASES               the marked cases of refusal 16, each of its words among them
+judge bits > CASES                   the marked cases of refusal 17: sizes, order, form and length
 judge generate SEED COUNT FLAVOUR > CASES
-                                     cases by chance: small, mixed, damaged, sizes or names
+                                     cases by chance: small, mixed, damaged, sizes, names or stated
 judge select EACH < CASES > CASES    those with a feature that fewer than EACH of document 01's
                                      marked cases and those chosen before show
 judge replay < CASES                 whether the stored answers are the judge's
@@ -58,8 +61,8 @@ judge digest < CASES                 one number for the size tables of all cases
 judge histogram < CASES              what the cases show
 judge survey SEED COUNT              the same for COUNT generated cases of each flavour
 judge bench SEED COUNT               nanoseconds for accepted records: COUNT mixed ones, and families
-judge compare SEED COUNT             the port against the judge: the marked cases of both, and
-                                     COUNT generated ones of each flavour (see oracle/compare)
+judge compare SEED COUNT             the port against the judge: all marked cases, and COUNT
+                                     generated ones of each flavour (see oracle/compare)
 ";
 
 type Outcome = Result<ExitCode, Box<dyn Error>>;
@@ -76,6 +79,7 @@ fn main() -> Outcome {
         ["sizes"] => print_sizes(),
         ["marked"] => write_cases(marked::records()),
         ["keywords"] => write_cases(marked::keyword_records()),
+        ["bits"] => write_cases(marked_bits::records()),
         ["generate", seed, count, flavour] => {
             write_cases(generate::records(named(flavour)?, seed.parse()?, count.parse()?))
         }
@@ -228,7 +232,8 @@ fn compare_port(seed: u64, count: usize) -> Outcome {
     let mut comparison = compare::Comparison::new();
     let mut differences = 0;
     let generated = FLAVOURS.iter().flat_map(|(_, flavour)| generate::records(*flavour, seed, count));
-    let marked = marked::records().into_iter().chain(marked::keyword_records());
+    let of_refusals = marked::keyword_records().into_iter().chain(marked_bits::records());
+    let marked = marked::records().into_iter().chain(of_refusals);
     for record in marked.chain(generated) {
         let answer = answer(&record);
         if let Some(difference) = comparison.difference(&record, &answer) {

@@ -1,6 +1,6 @@
 //! The marked cases of document 01 first, then its five faults, its limits, and every shape of
 //! array. They stand at the front of the stored sample. Those of refusal 16 (document 02, Card 6)
-//! are a list of their own, which stands at its end.
+//! are a list of their own, which stands behind the generated ones.
 
 use crate::answer::{answer, within, BUFFER};
 use crate::generate::BLOCK;
@@ -313,7 +313,7 @@ fn with_long_lines() -> Vec<u8> {
 }
 
 /// A record of just this length: octets with names as long as it takes.
-fn of_length(length: usize) -> Vec<u8> {
+pub fn of_length(length: usize) -> Vec<u8> {
     let mut sketch = Sketch::new("little Lamp lite");
     let octet = |name: usize| format!("scalar {} 8", "x".repeat(name));
     let filled = |fields: &[String]| {
@@ -402,7 +402,7 @@ pub fn keyword_records() -> Vec<Vec<u8>> {
     all
 }
 
-fn answered(number: u8, record: Vec<u8>) -> Vec<u8> {
+pub fn answered(number: u8, record: Vec<u8>) -> Vec<u8> {
     let answer = answer(&record);
     let (found, _) = within(BUFFER, &answer);
     assert_eq!(found, number, "not as document 02 says: {answer:?}:\n{}", String::from_utf8_lossy(&record));

@@ -6,7 +6,8 @@ use crate::ast;
 use crate::record::{Decl, DeclDesc, Element, Endian, Field, FieldDesc, Modifier, Record};
 use crate::sizes::{Size, Tables};
 
-/// The file that the record declares. Keys count fields and declarations in their order.
+/// The file that the record declares. Keys count fields and declarations in their order. Lines `bits`
+/// have no part in it.
 pub fn file(record: &Record) -> ast::File {
     let mut file = ast::File::new(0);
     file.endianness.value = match record.endian {

@@ -1,5 +1,6 @@
-//! The record of document 01, section 'The record': its parts, and the reader of its form.
-//! Whatever departs from the form is refusal 2; the size of a number is not form (refusal 6).
+//! The record of document 01, section 'The record', with the line `bits` of document 02 (Card 10): its
+//! parts, and the reader of its form. Whatever departs from the form is refusal 2; the size of a number
+//! is not form (refusal 6), nor whether a size is stated rightly (refusal 17).
 
 /// What of the form a record breaks, and at which key.
 pub type Flaw = String;
@@ -39,7 +40,17 @@ pub enum DeclDesc {
 /// What a packet and a struct hold.
 pub struct Block {
     pub parent: Option<String>,
+    /// The line `bits`, which need not be there.
+    pub stated: Option<Stated>,
     pub fields: Vec<Field>,
+}
+
+/// What a line `bits` says of its declaration's own size.
+#[derive(Clone, Copy)]
+pub enum Stated {
+    Bits(u64),
+    Dynamic,
+    Unknown,
 }
 
 pub struct Field {
@@ -91,6 +102,11 @@ impl Decl {
             DeclDesc::Packet(block) | DeclDesc::Struct(block) => Some(block),
             _ => None,
         }
+    }
+
+    /// The line `bits` of a packet or struct that has one.
+    pub fn stated(&self) -> Option<Stated> {
+        self.block()?.stated
     }
 
     pub fn is_enum(&self) -> bool {
@@ -207,11 +223,15 @@ fn read_decl(lines: &mut Lines) -> Result<Decl, Flaw> {
 
 fn read_block(lines: &mut Lines) -> Result<Block, Flaw> {
     let parent = lines.optional("parent", name)?;
+    let stated = match lines.next_is("bits") {
+        true => Some(lines.read("bits", stated)?),
+        false => None,
+    };
     let mut fields = Vec::new();
     while lines.next_is("field") {
         fields.push(read_field(lines)?);
     }
-    Ok(Block { parent, fields })
+    Ok(Block { parent, stated, fields })
 }
 
 fn read_field(lines: &mut Lines) -> Result<Field, Flaw> {
@@ -326,6 +346,14 @@ fn mark(value: &[u8]) -> Result<bool, &'static str> {
         b"0" => Ok(false),
         b"1" => Ok(true),
         _ => Err("neither 0 nor 1"),
+    }
+}
+
+fn stated(value: &[u8]) -> Result<Stated, &'static str> {
+    match value {
+        b"dynamic" => Ok(Stated::Dynamic),
+        b"unknown" => Ok(Stated::Unknown),
+        _ => number(value).map(Stated::Bits),
     }
 }
 

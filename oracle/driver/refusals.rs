@@ -1,9 +1,9 @@
-//! Refusals 1 to 9 of document 01 and 16 of document 02, one function for each, in the order in
-//! which they are tested: 16 stands between 2 and 3. Each looks at the whole record before the next
-//! one does, and yields why the record is turned back, if it is.
+//! Refusals 1 to 9 of document 01 and 16 and 17 of document 02, one function for each, in the order
+//! in which they are tested: 16 stands between 2 and 3, 17 between 8 and 9. Each looks at the whole
+//! record before the next one does, and yields why the record is turned back, if it is.
 
 use crate::keywords::is_keyword;
-use crate::record::{Decl, DeclDesc, Element, Field, FieldDesc, Modifier, Record};
+use crate::record::{Decl, DeclDesc, Element, Field, FieldDesc, Modifier, Record, Stated};
 use crate::sizes::{DeclSizes, Size, Tables};
 
 const MOST_BYTES: usize = 16_384;
@@ -55,9 +55,10 @@ pub fn of_the_sizes(tables: &Tables) -> Result<(), Refusal> {
     refuse(7, exceeds_the_largest_size(tables))
 }
 
-/// Refusals 8 and 9. Behind them `FieldParser` is asked.
+/// Refusals 8, 17 and 9. Behind them `FieldParser` is asked.
 pub fn of_the_target(record: &Record, tables: &Tables) -> Result<(), Refusal> {
     refuse(8, has_parts_of_no_whole_octets(record, tables))?;
+    refuse(17, misstates_a_size(record, tables))?;
     refuse(9, has_no_target(record))
 }
 
@@ -228,6 +229,27 @@ fn bad_optional(record: &Record, field: &Field) -> Reason {
             _ => None,
         },
         _ => None,
+    }
+}
+
+/// By the entries decl_size: without parents and payload, with the padded sizes.
+fn misstates_a_size(record: &Record, tables: &Tables) -> Reason {
+    let entries = record.decls.iter().zip(&tables.0);
+    entries.filter_map(|(decl, sizes)| Some((decl.stated()?, sizes.decl))).find_map(wrong_size)
+}
+
+fn wrong_size((stated, own): (Stated, Size)) -> Reason {
+    match (stated, own) {
+        (Stated::Bits(number), Size::Static(bits)) => {
+            (u128::from(number) != bits).then_some("a number for another")
+        }
+        (Stated::Bits(_), Size::Dynamic) => Some("a number for dynamic"),
+        (Stated::Bits(_), Size::Unknown) => Some("a number for unknown"),
+        (Stated::Dynamic, Size::Static(_)) => Some("dynamic for a number"),
+        (Stated::Dynamic, Size::Unknown) => Some("dynamic for unknown"),
+        (Stated::Unknown, Size::Static(_)) => Some("unknown for a number"),
+        (Stated::Unknown, Size::Dynamic) => Some("unknown for dynamic"),
+        (Stated::Dynamic, Size::Dynamic) | (Stated::Unknown, Size::Unknown) => None,
     }
 }
 

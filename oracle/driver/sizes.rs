@@ -1,5 +1,5 @@
 //! The size tables of document 01, section 'Sizes', written a second time in numbers that
-//! cannot overflow. Refusals 7 and 8 are judged by them; `published.rs` checks that they equal
+//! cannot overflow. Refusals 7, 8 and 17 are judged by them; `published.rs` checks that they equal
 //! the published `Schema` wherever that can be built.
 
 use crate::record::{Decl, DeclDesc, Element, Field, FieldDesc, Record};
@@ -27,7 +27,7 @@ impl Size {
     pub const ZERO: Size = Size::Static(0);
 
     /// Past every limit the sum stays there.
-    fn plus(self, other: Size) -> Size {
+    pub fn plus(self, other: Size) -> Size {
         match (self, other) {
             (Size::Unknown, _) | (_, Size::Unknown) => Size::Unknown,
             (Size::Dynamic, _) | (_, Size::Dynamic) => Size::Dynamic,
@@ -190,6 +190,12 @@ fn dynamic_if(given: bool) -> Size {
     } else {
         Size::Unknown
     }
+}
+
+/// The own size of a declaration as it would be if no padding counted.
+pub fn unpadded(decl: &Decl, sizes: &DeclSizes) -> Size {
+    let fields = decl.fields().iter().zip(&sizes.fields).filter(|(field, _)| !is_payload(field));
+    fields.fold(Size::ZERO, |sum, (_, size)| sum.plus(*size))
 }
 
 fn is_payload(field: &Field) -> bool {

@@ -1,6 +1,7 @@
 //! Records in shorthand, for writing them by hand and by chance:
 //! `little Lamp lite; packet Lamp -: scalar amps 12, reserved 4, scalar x 8 if c 1, payload -`.
-//! First the head's three values, then the declarations; each word is the value of one key.
+//! First the head's three values, then the declarations; each word is the value of one key. A packet
+//! or struct may have a word more, the value of `bits`: `packet Lamp - 16: scalar amps 16`.
 
 #[derive(Clone)]
 pub struct Sketch {
@@ -16,8 +17,9 @@ pub struct DeclSketch {
 
 const HEAD_KEYS: [&str; 3] = ["endian", "target", "arrays"];
 
-fn decl_keys(kind: &str) -> &'static [&'static str] {
+fn decl_keys(kind: &str, words: usize) -> &'static [&'static str] {
     match kind {
+        "packet" | "struct" if words == 4 => &["decl", "name", "parent", "bits"],
         "packet" | "struct" => &["decl", "name", "parent"],
         "enum" => &["decl", "name", "width", "open", "complete"],
         "checksum" | "custom" => &["decl", "name", "width"],
@@ -56,7 +58,7 @@ impl Sketch {
         push_lines(&mut lines, &HEAD_KEYS, &words(&self.head));
         for decl in &self.decls {
             let values = words(&decl.head);
-            push_lines(&mut lines, decl_keys(values[0]), &values);
+            push_lines(&mut lines, decl_keys(values[0], values.len()), &values);
             decl.fields.iter().for_each(|field| push_field(&mut lines, field));
         }
         lines

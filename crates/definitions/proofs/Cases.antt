@@ -235,6 +235,61 @@ taken-right : all right taken ≡ true
 unfolding everything lite packet struct lamp plain scalar refuses prints agrees right repeated named taken
 taken-right = refl
 
+-- ---- 17: a `bits` line
+
+-- Lamp with this value, and these fields
+sized : String → Text → Text
+sized bits fields = lamp (text "bits=" ++ (text bits ++ (text "\n" ++ fields)))
+
+-- a struct S of these fields, and Lamp
+before : String → Text → Text
+before bits fields = lite ++ (struct "S" ++ (text "bits=" ++ (text bits ++ (text "\n" ++ (fields ++ packet "Lamp")))))
+
+padded : Text
+padded = array "8" "-" "2" ++ plain "padding\nbytes=8"
+
+stated : List Case
+stated =
+    -- the form: digits, no leading zero, below 2 ^ 64, or a word
+    prints (sized "4" (scalar "a" "4")) ""
+    ∷ refuses (sized "18446744073709551615" (scalar "a" "4")) 17
+    ∷ refuses (sized "18446744073709551616" (scalar "a" "4")) 2
+    ∷ refuses (sized "04" (scalar "a" "4")) 2
+    ∷ refuses (sized "-" (scalar "a" "4")) 2
+    ∷ refuses (sized "Dynamic" (scalar "a" "4")) 2
+    -- twice, at another place, and in another declaration
+    ∷ refuses (sized "4\nbits=4" (scalar "a" "4")) 2
+    ∷ refuses (lamp (scalar "a" "4" ++ text "bits=4\n")) 2
+    ∷ refuses (lite ++ (text "decl=packet\nname=Lamp\nbits=0\nparent=-\n")) 2
+    ∷ refuses (lite ++ (enum "8" "open=0\ncomplete=0\nbits=8" ++ packet "Lamp")) 2
+    -- the words, each for the other two
+    ∷ prints (before "dynamic" (plain "size\nof=v\nwidth=8" ++ array "8" "-" "-")) ""
+    ∷ refuses (before "unknown" (plain "size\nof=v\nwidth=8" ++ array "8" "-" "-")) 17
+    ∷ prints (before "unknown" (array "8" "-" "-")) ""
+    ∷ refuses (before "dynamic" (array "8" "-" "-")) 17
+    ∷ refuses (before "0" (array "8" "-" "-")) 17
+    ∷ refuses (before "dynamic" (scalar "a" "4")) 17
+    -- without the payload and the parents
+    ∷ prints (before "0" payload) ""
+    ∷ prints (before "8" (scalar "a" "8") ++ text "decl=packet\nname=L2\nparent=S\nbits=4\nfield=scalar\nid=b\nwidth=4\nif=-\n") ""
+    ∷ refuses (before "8" (scalar "a" "8") ++ text "decl=packet\nname=L2\nparent=S\nbits=12\nfield=scalar\nid=b\nwidth=4\nif=-\n") 17
+    -- a padded size counts in place of the field's own, also of an optional field, and not of a payload
+    ∷ prints (before "64" padded) ""
+    ∷ refuses (before "16" padded) 17
+    ∷ prints (before "64" (optional ++ plain "padding\nbytes=8")) ""
+    ∷ refuses (before "dynamic" (optional ++ plain "padding\nbytes=8")) 17
+    ∷ prints (before "0" (payload ++ plain "padding\nbytes=8")) ""
+    -- in any declaration, behind 8, and before 9
+    ∷ refuses (before "7" (scalar "a" "8")) 17
+    ∷ refuses (before "7" (array "12" "-" "2")) 8
+    ∷ refuses (text "endian=little\ntarget=T\narrays=lite\n" ++ (packet "Lamp" ++ text "bits=1\n")) 17
+    ∷ refuses (text "endian=little\ntarget=T\narrays=lite\n" ++ (packet "Lamp" ++ text "bits=0\n")) 9
+    ∷ []
+
+stated-right : all right stated ≡ true
+unfolding everything lite packet struct lamp plain scalar payload optional refuses prints agrees right enum array sized before padded stated
+stated-right = refl
+
 -- ---- 15, the word and the buffer: P3 has 81 bytes
 
 skips : Text

@@ -18,6 +18,8 @@ use Rattle.definitions.specs.declared.FieldDesc.{FieldDesc}
 use Rattle.definitions.specs.declared.Cond.{Cond}
 use Rattle.definitions.specs.declared.Field.{Field}
 use Rattle.definitions.specs.declared.DeclDesc.{DeclDesc}
+use Rattle.definitions.specs.declared.Size.{Size}
+use Rattle.definitions.specs.declared.MaybeSize.{MaybeSize}
 use Rattle.definitions.specs.declared.Decl.{Decl}
 use Rattle.definitions.specs.declared.Found.{Found}
 use Rattle.definitions.specs.declared.NumberRead.{NumberRead}
@@ -25,6 +27,7 @@ use Rattle.definitions.specs.declared.NameRead.{NameRead}
 use Rattle.definitions.specs.declared.BitRead.{BitRead}
 use Rattle.definitions.specs.declared.ModifierRead.{ModifierRead}
 use Rattle.definitions.specs.declared.MaybeNumberRead.{MaybeNumberRead}
+use Rattle.definitions.specs.declared.MaybeSizeRead.{MaybeSizeRead}
 use Rattle.definitions.specs.declared.MaybePartRead.{MaybePartRead}
 use Rattle.definitions.specs.declared.DescRead.{DescRead}
 use Rattle.definitions.specs.declared.CondRead.{CondRead}
@@ -140,6 +143,10 @@ module _ {ℓ} {A : Type ℓ} where
   onMaybeNumber (MaybeNumberRead.Is n p) bad f = f n p
   onMaybeNumber MaybeNumberRead.Wrong bad f = bad
 
+  abbrev pub onMaybeSize : MaybeSizeRead → A → (MaybeSize → ℕ → A) → A
+  onMaybeSize (MaybeSizeRead.Is n p) bad f = f n p
+  onMaybeSize MaybeSizeRead.Wrong bad f = bad
+
   abbrev pub onMaybePart : MaybePartRead → A → (MaybePart → ℕ → A) → A
   onMaybePart (MaybePartRead.Is n p) bad f = f n p
   onMaybePart MaybePartRead.Wrong bad f = bad
@@ -217,6 +224,19 @@ modifierAt s at = onFound (keyAt s at (text "-\n")) (minusAt s at) λ p. Modifie
 
 unfoldable pub modifierLine : Text → ℕ → Text → ModifierRead
 modifierLine s at key = onFound (keyAt s at key) ModifierRead.Wrong λ p. modifierAt s p
+
+-- a size in bits, or what else `Schema` gives (document 02, Card 10)
+abbrev pub statedAt : Text → ℕ → MaybeSizeRead
+statedAt s at =
+    onFound (keyAt s at (text "dynamic\n"))
+    (onFound (keyAt s at (text "unknown\n"))
+    (onNumber (numberAt s at) MaybeSizeRead.Wrong λ n p. MaybeSizeRead.Is (MaybeSize.Some (Size.Static n)) p)
+    λ p. MaybeSizeRead.Is (MaybeSize.Some Size.Unknown) p)
+    λ p. MaybeSizeRead.Is (MaybeSize.Some Size.Dynamic) p
+
+-- a line that need not be there
+unfoldable pub bitsLine : Text → ℕ → MaybeSizeRead
+bitsLine s at = onFound (keyAt s at (text "bits=")) (MaybeSizeRead.Is MaybeSize.None at) λ p. statedAt s p
 
 -- ---- a field: its kind's keys, then `if` and `is`
 
@@ -355,14 +375,15 @@ headAt s at =
     onArrays s q HeadRead.Wrong λ arrays r.
     HeadRead.Is (record { options = record { endianness = endianness; arrays = arrays }; target = target }) r
 
-abbrev pub declIs : ℕ → Part → DeclDesc → ℕ → DeclRead
-declIs at id desc p = DeclRead.Is (record { key = at; id = id; desc = desc }) p
+abbrev pub declIs : ℕ → Part → MaybeSize → DeclDesc → ℕ → DeclRead
+declIs at id bits desc p = DeclRead.Is (record { key = at; id = id; bits = bits; desc = desc }) p
 
 -- a packet or a struct; `at` is the declaration's place, `p` that behind its `decl` line
 abbrev pub parentedAt : (MaybePart → DeclDesc) → Text → ℕ → ℕ → DeclRead
 parentedAt desc s at p =
     onName (nameLine s p (text "name=")) DeclRead.Wrong λ id q.
-    onMaybePart (maybeNameLine s q (text "parent=")) DeclRead.Wrong λ parent r. declIs at id (desc parent) r
+    onMaybePart (maybeNameLine s q (text "parent=")) DeclRead.Wrong λ parent r.
+    onMaybeSize (bitsLine s r) DeclRead.Wrong λ bits t. declIs at id bits (desc parent) t
 
 unfoldable pub packetAt : Text → ℕ → ℕ → DeclRead
 packetAt s at p = parentedAt DeclDesc.Packet s at p
@@ -375,17 +396,17 @@ enumAt s at p =
     onName (nameLine s p (text "name=")) DeclRead.Wrong λ id q.
     onNumber (numberLine s q (text "width=")) DeclRead.Wrong λ width r.
     onBit (bitLine s r (text "open=")) DeclRead.Wrong λ isOpen t.
-    onBit (bitLine s t (text "complete=")) DeclRead.Wrong λ isComplete u. declIs at id (DeclDesc.Enum width isOpen isComplete) u
+    onBit (bitLine s t (text "complete=")) DeclRead.Wrong λ isComplete u. declIs at id MaybeSize.None (DeclDesc.Enum width isOpen isComplete) u
 
 unfoldable pub checksumDeclAt : Text → ℕ → ℕ → DeclRead
 checksumDeclAt s at p =
     onName (nameLine s p (text "name=")) DeclRead.Wrong λ id q.
-    onNumber (numberLine s q (text "width=")) DeclRead.Wrong λ width r. declIs at id (DeclDesc.Checksum width) r
+    onNumber (numberLine s q (text "width=")) DeclRead.Wrong λ width r. declIs at id MaybeSize.None (DeclDesc.Checksum width) r
 
 unfoldable pub customAt : Text → ℕ → ℕ → DeclRead
 customAt s at p =
     onName (nameLine s p (text "name=")) DeclRead.Wrong λ id q.
-    onMaybeNumber (maybeNumberLine s q (text "width=")) DeclRead.Wrong λ width r. declIs at id (DeclDesc.CustomField width) r
+    onMaybeNumber (maybeNumberLine s q (text "width=")) DeclRead.Wrong λ width r. declIs at id MaybeSize.None (DeclDesc.CustomField width) r
 
 -- the lines of a declaration that stand before its fields
 unfoldable pub declAt : Text → ℕ → DeclRead

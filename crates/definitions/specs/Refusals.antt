@@ -1,5 +1,5 @@
 -- Document 01, 'The answer, and why a record is turned back': the number of each refusal, and refusals 3 to 9, each a test over the whole record;
--- and before them 16 of document 02.
+-- and of document 02 16, before them, and 17, between 8 and 9.
 -- Assumes nothing.
 use mathlib.Core.Bool.{Bool, true, false, not, _&&_, _||_}
 use mathlib.Core.List.{List, [], _∷_, _++_}
@@ -23,6 +23,7 @@ use Rattle.definitions.specs.declared.Field.{Field}
 use Rattle.definitions.specs.declared.DeclDesc.{DeclDesc}
 use Rattle.definitions.specs.declared.Decl.{Decl}
 use Rattle.definitions.specs.declared.Size.{Size}
+use Rattle.definitions.specs.declared.MaybeSize.{MaybeSize}
 use Rattle.definitions.specs.declared.Refusal.{Refusal}
 use Rattle.definitions.specs.declared.Verdict.{Verdict}
 
@@ -36,6 +37,7 @@ number Refusal.UnknownName = 5
 number Refusal.OutOfRange = 6
 number Refusal.TooLarge = 7
 number Refusal.NotWholeBytes = 8
+number Refusal.Misstated = 17
 number Refusal.NoTarget = 9
 number Refusal.OpenChunk = 10
 number Refusal.OctetBoundary = 11
@@ -283,6 +285,26 @@ raggedField s rows f = raggedDesc s rows (isOptional (f .cond)) (f .desc)
 unfoldable pub ragged : Text → Schema → Bool
 ragged s schema = any (λ (e : Entry). any (raggedField s (e .earlier)) (e .declaration .fields)) schema
 
+-- ---- 17: a `bits` line differs from `decl_size` (document 02, Card 10)
+
+abbrev pub sameSize : Size → Size → Bool
+sameSize (Size.Static a) (Size.Static b) = eqb a b
+sameSize (Size.Static a) Size.Dynamic = false
+sameSize (Size.Static a) Size.Unknown = false
+sameSize Size.Dynamic (Size.Static b) = false
+sameSize Size.Dynamic Size.Dynamic = true
+sameSize Size.Dynamic Size.Unknown = false
+sameSize Size.Unknown (Size.Static b) = false
+sameSize Size.Unknown Size.Dynamic = false
+sameSize Size.Unknown Size.Unknown = true
+
+abbrev pub differs : MaybeSize → Size → Bool
+differs MaybeSize.None size = false
+differs (MaybeSize.Some stated) size = not (sameSize stated size)
+
+unfoldable pub misstated : Schema → Bool
+misstated schema = any (λ (e : Entry). differs (e .row .decl .bits) (e .row .declSize)) schema
+
 -- ---- 9: the target is no packet or struct of the record
 
 abbrev pub isTarget : Text → Head → Entry → Bool
@@ -297,7 +319,7 @@ abbrev pub refuseIf : Bool → Refusal → Verdict → Verdict
 refuseIf true why next = Verdict.Refuse why
 refuseIf false why next = next
 
--- 16, then 3 to 9; `schema` are the tables of `ds`
+-- 16, then 3 to 9 with 17 between 8 and 9; `schema` are the tables of `ds`
 unfoldable pub verdict : Text → Head → List Declaration → Schema → Verdict
 verdict s h ds schema =
     refuseIf (keywordName s h ds) Refusal.Keyword
@@ -307,4 +329,5 @@ verdict s h ds schema =
     (refuseIf (outOfRange ds) Refusal.OutOfRange
     (refuseIf (large schema) Refusal.TooLarge
     (refuseIf (ragged s schema) Refusal.NotWholeBytes
-    (refuseIf (noTarget s h schema) Refusal.NoTarget Verdict.Pass)))))))
+    (refuseIf (misstated schema) Refusal.Misstated
+    (refuseIf (noTarget s h schema) Refusal.NoTarget Verdict.Pass))))))))

@@ -137,10 +137,11 @@ pub enum DeclDesc {
     },
 }
 
-// The key of a declaration is its place in the record.
+// The key of a declaration is its place in the record. `bits` is what the record says of its own size (document 02, Card 10), in a packet or a struct alone.
 pub struct Decl {
     pub key: usize,
     pub id: Part,
+    pub bits: MaybeSize,
     pub desc: DeclDesc,
 }
 
@@ -150,6 +151,11 @@ pub enum Size {
     Static(u64),
     Dynamic,
     Unknown,
+}
+
+pub enum MaybeSize {
+    None,
+    Some(Size),
 }
 
 pub enum ElementSize {
@@ -183,8 +189,8 @@ pub enum Reference {
     ElementSize { field_id: Part },
 }
 
-// ---- why a record is turned back: the refusals of document 01, in its order, and 16 of document 02, which is tested behind 2. 10 to 14 are the panics
-// of cxx.rs
+// ---- why a record is turned back: the refusals of document 01, in its order, and of document 02 16, which is tested behind 2, and 17, behind 8. 10 to 14
+// are the panics of cxx.rs
 
 pub enum Refusal {
     RecordLength,
@@ -196,6 +202,7 @@ pub enum Refusal {
     OutOfRange,
     TooLarge,
     NotWholeBytes,
+    Misstated,
     NoTarget,
     OpenChunk,
     OctetBoundary,
@@ -241,6 +248,11 @@ pub enum ModifierRead {
 
 pub enum MaybeNumberRead {
     Is(MaybeNumber, usize),
+    Wrong,
+}
+
+pub enum MaybeSizeRead {
+    Is(MaybeSize, usize),
     Wrong,
 }
 

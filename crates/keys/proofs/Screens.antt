@@ -8,7 +8,6 @@ use Rattle.definitions.specs.Keywords.{isKeyword}
 use Rattle.definitions.specs.Record.{keyAt, onFound, nameAt, nameLine, maybeNameLine}
 use Rattle.definitions.specs.declared.Part.{Part}
 use Rattle.definitions.specs.declared.MaybePart.{MaybePart}
-use Rattle.definitions.specs.declared.NameRead.{NameRead}
 use Rattle.definitions.specs.declared.MaybePartRead.{MaybePartRead}
 use Rattle.definitions.specs.declared.ScreenedName.{ScreenedName}
 use Rattle.definitions.specs.declared.ScreenedPart.{ScreenedPart}

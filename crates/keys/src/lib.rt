@@ -5,6 +5,8 @@ use definitions::BitRead;
 use definitions::Found;
 use definitions::MaybeNumber;
 use definitions::MaybeNumberRead;
+use definitions::MaybeSize;
+use definitions::MaybeSizeRead;
 use definitions::Modifier;
 use definitions::ModifierRead;
 use definitions::NumberRead;
@@ -12,8 +14,9 @@ use definitions::ScreenedName;
 use definitions::ScreenedNameRead;
 use definitions::ScreenedPart;
 use definitions::ScreenedPartRead;
+use definitions::Size;
 ghost use mathlib.Core.Path.{_≡_};
-ghost use Rattle.definitions.specs.Record.{numberLine, nameLine, bitLine, maybeNumberLine, maybeNameLine, modifierAt, modifierLine};
+ghost use Rattle.definitions.specs.Record.{numberLine, nameLine, bitLine, maybeNumberLine, maybeNameLine, modifierAt, modifierLine, statedAt, bitsLine};
 ghost use Rattle.keywords.specs.Screens.{screenName, screenPart};
 
 // `key=NUMBER`.
@@ -117,4 +120,30 @@ pub fn modifier_line(rec: &[u8], at: usize, key: &[u8]) -> ModifierRead
         return ModifierRead::Wrong;
     };
     modifier_at(rec, p)
+}
+
+// A number of bits, `dynamic` or `unknown`.
+fn stated_at(rec: &[u8], at: usize) -> MaybeSizeRead
+    ensures { λ r. ⌜ r ≡ statedAt (now (rec .entry)) at ⌝ }
+{
+    if let Found::At(p) = names::key_at(rec, at, b"dynamic\n") {
+        return MaybeSizeRead::Is(MaybeSize::Some(Size::Dynamic), p);
+    }
+    if let Found::At(p) = names::key_at(rec, at, b"unknown\n") {
+        return MaybeSizeRead::Is(MaybeSize::Some(Size::Unknown), p);
+    }
+    let NumberRead::Is(n, p) = names::number_at(rec, at) else {
+        return MaybeSizeRead::Wrong;
+    };
+    MaybeSizeRead::Is(MaybeSize::Some(Size::Static(n)), p)
+}
+
+// `bits=`, which may be absent (document 02, Card 10).
+pub fn bits_line(rec: &[u8], at: usize) -> MaybeSizeRead
+    ensures { λ r. ⌜ r ≡ bitsLine (now (rec .entry)) at ⌝ }
+{
+    match names::key_at(rec, at, b"bits=") {
+        Found::At(p) => stated_at(rec, p),
+        Found::Nothing => MaybeSizeRead::Is(MaybeSize::None, at),
+    }
 }

@@ -6,10 +6,11 @@ use mathlib.Core.Bool.{Bool, true, false, _||_}
 use mathlib.Core.Path.{_≡_, refl, sym, ap, _∙_}
 use Rattle.definitions.specs.Bytes.{Text, part, pick}
 use Rattle.definitions.specs.Keywords.{isKeyword}
-use Rattle.definitions.specs.Record.{onFound, onNumber, onName, onBit, onModifier, onMaybeNumber, onMaybePart}
+use Rattle.definitions.specs.Record.{onFound, onNumber, onName, onBit, onModifier, onMaybeNumber, onMaybeSize, onMaybePart}
 use Rattle.definitions.specs.declared.Part.{Part}
 use Rattle.definitions.specs.declared.MaybePart.{MaybePart}
 use Rattle.definitions.specs.declared.MaybeNumber.{MaybeNumber}
+use Rattle.definitions.specs.declared.MaybeSize.{MaybeSize}
 use Rattle.definitions.specs.declared.Modifier.{Modifier}
 use Rattle.definitions.specs.declared.Found.{Found}
 use Rattle.definitions.specs.declared.NumberRead.{NumberRead}
@@ -17,6 +18,7 @@ use Rattle.definitions.specs.declared.NameRead.{NameRead}
 use Rattle.definitions.specs.declared.BitRead.{BitRead}
 use Rattle.definitions.specs.declared.ModifierRead.{ModifierRead}
 use Rattle.definitions.specs.declared.MaybeNumberRead.{MaybeNumberRead}
+use Rattle.definitions.specs.declared.MaybeSizeRead.{MaybeSizeRead}
 use Rattle.definitions.specs.declared.MaybePartRead.{MaybePartRead}
 use Rattle.definitions.specs.declared.ScreenedName.{ScreenedName}
 use Rattle.definitions.specs.declared.ScreenedPart.{ScreenedPart}
@@ -124,6 +126,11 @@ module _ {A B : Type 0} (g : A → B) (bad : A) where
       → onMaybeNumber r (g bad) k ≡ g (onMaybeNumber r bad f)
   after-maybe-number e (MaybeNumberRead.Is n p) = e n p
   after-maybe-number e MaybeNumberRead.Wrong = refl
+
+  pub after-maybe-size : {f : MaybeSize → ℕ → A} {k : MaybeSize → ℕ → B} → ((n : MaybeSize) (p : ℕ) → k n p ≡ g (f n p)) → (r : MaybeSizeRead)
+      → onMaybeSize r (g bad) k ≡ g (onMaybeSize r bad f)
+  after-maybe-size e (MaybeSizeRead.Is n p) = e n p
+  after-maybe-size e MaybeSizeRead.Wrong = refl
 
   pub after-name : (s : Text) {f : Part → ℕ → A} (k : ScreenedName → ℕ → B) → ((n : Part) (p : ℕ) → k (freeName s n) p ≡ g (f n p)) → (r : NameRead)
       → onScreened (screenName s r) (g bad) k ≡ g (onName r bad f)

@@ -1,6 +1,6 @@
 -- The code's form of the keywords: for each length a text of the words, each with a byte behind it, and the first letters that words so long have.
 -- Assumes nothing.
-use mathlib.Core.Bool.{Bool, true, false, _&&_}
+use mathlib.Core.Bool.{Bool, false, _&&_}
 use mathlib.Core.List.{List, [], _∷_}
 use Prim.Native.Nat.{ℕ, zero, suc}
 use lib.Dec.{eqb}

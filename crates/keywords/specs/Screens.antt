@@ -1,8 +1,6 @@
 -- What a reader hands out of what the form reads (document 02, Card 6): the same where no name in it is a keyword of C++; else the place behind
 -- it alone, from which the form is read on. A line that breaks the form breaks it with any names.
 -- Assumes nothing.
-use mathlib.Core.Bool.{true, false}
-use mathlib.Core.List.{[], _∷_}
 use Rattle.definitions.specs.Bytes.{Text, part, pick}
 use Rattle.definitions.specs.Keywords.{isKeyword}
 use Rattle.definitions.specs.Refusals.{anyKeyword, descNames, condNames, fieldNames, declNames, isFrame}

@@ -9,7 +9,6 @@ use Rattle.definitions.specs.Refusals.{anyKeyword}
 use Rattle.definitions.specs.declared.Part.{Part}
 use Rattle.definitions.specs.declared.FieldDesc.{FieldDesc}
 use Rattle.definitions.specs.declared.DescRead.{DescRead}
-use Rattle.definitions.specs.declared.ScreenedName.{ScreenedName}
 use Rattle.definitions.specs.declared.ScreenedDesc.{ScreenedDesc}
 use Rattle.keywords.specs.Screens.{freeName, screenName, screenDesc}
 use Rattle.keywords.proofs.Screened.{onScreened, onFree, after-number, after-name, one-name, two-names}

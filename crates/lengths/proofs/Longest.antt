@@ -13,7 +13,7 @@ use borrow.Author.Tests.{ltb-false, le-leb}
 use Rattle.definitions.specs.Bytes.{Text, pick, any}
 use Rattle.definitions.specs.Record.{Declaration, RecordRead, recordIs, noRecord, readRecord}
 use Rattle.definitions.specs.Sizes.{Row, Schema, reference, anyReference, paddingBits, paddedBy, annotateDecl, annotateFrom, newSchema}
-use Rattle.definitions.specs.Refusals.{keywordName, tooMany, duplicateName, unknownName, outOfRange, large, ragged, noTarget, badNumber, badDecl, isTarget, refuseIf, verdict}
+use Rattle.definitions.specs.Refusals.{keywordName, tooMany, duplicateName, unknownName, outOfRange, large, ragged, misstated, noTarget, badNumber, badDecl, isTarget, refuseIf, verdict}
 use Rattle.definitions.specs.Lines.{render}
 use Rattle.definitions.specs.Blocks.{Block, program}
 use Rattle.definitions.specs.FieldParser.{Outcome, refused, accepted}
@@ -138,7 +138,8 @@ module _ (s : Text) (h : Head) where
       (refuses-not-15 (outOfRange ds) Refusal.OutOfRange _ (omega arith)
       (refuses-not-15 (large schema) Refusal.TooLarge _ (omega arith)
       (refuses-not-15 (ragged s schema) Refusal.NotWholeBytes _ (omega arith)
-      (refuses-not-15 (noTarget s h schema) Refusal.NoTarget Verdict.Pass (omega arith) tt)))))))
+      (refuses-not-15 (misstated schema) Refusal.Misstated _ (omega arith)
+      (refuses-not-15 (noTarget s h schema) Refusal.NoTarget Verdict.Pass (omega arith) tt))))))))
 
   passes : (ds : List Declaration) (schema : Schema) → verdict s h ds schema ≡ Verdict.Pass → (tooMany ds ≡ false) × (outOfRange ds ≡ false)
   unfolding verdict

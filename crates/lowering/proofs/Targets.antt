@@ -1,4 +1,4 @@
--- Behind refusals 7 to 9: the target stands in the tables at the index that `check_sizes` gives, its fields are behind refusal 7, and lowering them is
+-- Behind refusals 7, 8, 17 and 9: the target stands in the tables at the index that `check_sizes` gives, its fields are behind refusal 7, and lowering them is
 -- lowering the record.
 -- Assumes nothing.
 use Prim.Native.Nat.{ℕ, zero, suc, _+_, _*_, _-_, _^_, _<_}
@@ -10,7 +10,7 @@ use native.Mathlib.Omega.{arith}
 use Rattle.definitions.specs.Bytes.{Text, any}
 use Rattle.definitions.specs.Record.{onFound}
 use Rattle.definitions.specs.Sizes.{Schema, Entry, Annotated, sameName, annotateFields, newSchema}
-use Rattle.definitions.specs.Refusals.{number, tooLarge, largeField, largeRow, largeEntry, staticSum, large, ragged, isFrame}
+use Rattle.definitions.specs.Refusals.{number, tooLarge, largeField, largeRow, largeEntry, staticSum, large, ragged, misstated, isFrame}
 use Rattle.definitions.specs.Tables.{encode}
 use Rattle.definitions.specs.FieldParser.{Outcome, refused, lowerFields}
 use Rattle.definitions.specs.Answer.{lowerTarget, lowerIn}
@@ -23,7 +23,7 @@ use Rattle.tables.specs.Tables.{fieldsFrom, countHere, declarationsFrom, Tables
 use Rattle.tables.proofs.Sized.{count-sized}
 use Rattle.schema.specs.Entries.{entryIn, entriesFrom, entrySizes, nextEntry, putRow, sizedRows}
 use Rattle.schema.specs.declared.RowSizes.{RowSizes}
-use Rattle.sizes.specs.Answers.{targetFrom, targetOr, behindSchema, checkSizes, Checked}
+use Rattle.sizes.specs.Answers.{targetFrom, targetOr, behindWhole, behindSchema, checkSizes, Checked}
 use Rattle.sizes.specs.declared.Sizing.{Sizing}
 use Rattle.sizes.proofs.Targets.{lower-target}
 use Rattle.sizes.proofs.Fine.{entry-fine}
@@ -36,19 +36,23 @@ use Rattle.lowering.proofs.Passes.{refuses-all}
 -- a target: 7 is not met, and 9 is not
 chosen : (s : Text) (h : Head) (schema : Schema) (i : ℕ) → checkSizes s h schema ≡ Sizing.Target i
     → (large schema ≡ false) × (targetFrom s (h .target) 0 schema ≡ Found.At i)
-unfolding checkSizes behindSchema
-chosen s h schema i = by (large schema) (ragged s schema) (targetFrom s (h .target) 0 schema)
+unfolding checkSizes behindSchema behindWhole
+chosen s h schema i = by (large schema) (ragged s schema) (misstated schema) (targetFrom s (h .target) 0 schema)
   where
-    by : (b d : Bool) (f : Found)
+    by : (b d e : Bool) (f : Found)
         → _≡_ {A = Sizing} (elim b [
           | true ↦ Sizing.Refuse Refusal.TooLarge
-          | false ↦ elim d [ true ↦ Sizing.Refuse Refusal.NotWholeBytes | false ↦ targetOr f ]
+          | false ↦ elim d [
+            | true ↦ Sizing.Refuse Refusal.NotWholeBytes
+            | false ↦ elim e [ true ↦ Sizing.Refuse Refusal.Misstated | false ↦ targetOr f ]
+          ]
         ]) (Sizing.Target i)
         → (b ≡ false) × (f ≡ Found.At i)
-    by true d f k = absurd (let z : _≡_ {A = ℕ} 0 1 = cc in omega arith)
-    by false true f k = absurd (let z : _≡_ {A = ℕ} 0 1 = cc in omega arith)
-    by false false (Found.At j) k = (refl, (let q : j ≡ i = cc in ap Found.At q))
-    by false false Found.Nothing k = absurd (let z : _≡_ {A = ℕ} 0 1 = cc in omega arith)
+    by true d e f k = absurd (let z : _≡_ {A = ℕ} 0 1 = cc in omega arith)
+    by false true e f k = absurd (let z : _≡_ {A = ℕ} 0 1 = cc in omega arith)
+    by false false true f k = absurd (let z : _≡_ {A = ℕ} 0 1 = cc in omega arith)
+    by false false false (Found.At j) k = (refl, (let q : j ≡ i = cc in ap Found.At q))
+    by false false false Found.Nothing k = absurd (let z : _≡_ {A = ℕ} 0 1 = cc in omega arith)
 
 -- the target's index is one of the table's
 within : (s : Text) (name : Part) (rows v f : List ℕ) (j m i : ℕ) → targetFrom s name j (entriesFrom s rows v f j m) ≡ Found.At i → i < j + m

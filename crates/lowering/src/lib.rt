@@ -78,7 +78,7 @@ fn lower_read(
     rec: &[u8],
     out: &mut [u8],
     head: Head,
-    rows: &mut [u64; 352],
+    rows: &mut [u64; 416],
     values: &[u64],
     fields: &[u16; 2048],
     n: usize,
@@ -103,7 +103,7 @@ fn lower_in(rec: &[u8], out: &mut [u8], values: &mut [u64]) -> u64
     ensures { λ r. ⌜ (r ≡ word (answered (now (rec .entry)) (length (now (out .entry)))))
         × (now (out .exit) ≡ bufferAfter (answered (now (rec .entry)) (length (now (out .entry)))) (now (out .entry))) ⌝ }
 {
-    let mut rows = [0u64; 352];
+    let mut rows = [0u64; 416];
     let mut fields = [0u16; 2048];
     match record::read_record(rec, &mut rows, values, &mut fields) {
         Reading::Refuse(why) => refusals::turned_back(why),
@@ -127,7 +127,7 @@ pub extern "C" fn lower(rec: &[u8], out: &mut [u8]) -> u64
         return lower_in(rec, out, &mut values);
     }
     if rec.len() <= 4096 {
-        let mut values = [0u64; 4352];
+        let mut values = [0u64; 4416];
         return lower_in(rec, out, &mut values);
     }
     let mut values = [0u64; 17408];

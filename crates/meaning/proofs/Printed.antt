@@ -25,6 +25,7 @@ never-zero Refusal.UnknownName e = omega arith
 never-zero Refusal.OutOfRange e = omega arith
 never-zero Refusal.TooLarge e = omega arith
 never-zero Refusal.NotWholeBytes e = omega arith
+never-zero Refusal.Misstated e = omega arith
 never-zero Refusal.NoTarget e = omega arith
 never-zero Refusal.OpenChunk e = omega arith
 never-zero Refusal.OctetBoundary e = omega arith

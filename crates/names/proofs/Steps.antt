@@ -3,14 +3,16 @@
 use Prim.Native.Nat.{ℕ}
 use mathlib.Core.Bool.{Bool}
 use mathlib.Core.Path.{_≡_, sym, ap, _∙_}
-use Rattle.definitions.specs.Record.{onFound, onNumber, onBit, onModifier, onMaybeNumber}
+use Rattle.definitions.specs.Record.{onFound, onNumber, onBit, onModifier, onMaybeNumber, onMaybeSize}
 use Rattle.definitions.specs.declared.Modifier.{Modifier}
 use Rattle.definitions.specs.declared.MaybeNumber.{MaybeNumber}
+use Rattle.definitions.specs.declared.MaybeSize.{MaybeSize}
 use Rattle.definitions.specs.declared.Found.{Found}
 use Rattle.definitions.specs.declared.NumberRead.{NumberRead}
 use Rattle.definitions.specs.declared.BitRead.{BitRead}
 use Rattle.definitions.specs.declared.ModifierRead.{ModifierRead}
 use Rattle.definitions.specs.declared.MaybeNumberRead.{MaybeNumberRead}
+use Rattle.definitions.specs.declared.MaybeSizeRead.{MaybeSizeRead}
 
 module _ {A : Type 0} (bad : A) {x : A} where
   pub found : (f : ℕ → A) {r e : Found} {p : ℕ} → r ≡ e → r ≡ Found.At p → x ≡ f p → x ≡ onFound e bad f
@@ -44,8 +46,15 @@ module _ {A : Type 0} (bad : A) {x : A} where
   pub no-maybe-number : (f : MaybeNumber → ℕ → A) {r e : MaybeNumberRead} → r ≡ e → r ≡ MaybeNumberRead.Wrong → x ≡ bad → x ≡ onMaybeNumber e bad f
   no-maybe-number f h k t = t ∙ ap (λ (e : MaybeNumberRead). onMaybeNumber e bad f) (sym k ∙ h)
 
+  pub maybe-size : (f : MaybeSize → ℕ → A) {r e : MaybeSizeRead} {a : MaybeSize} {p : ℕ}
+      → r ≡ e → r ≡ MaybeSizeRead.Is a p → x ≡ f a p → x ≡ onMaybeSize e bad f
+  maybe-size f h k t = t ∙ ap (λ (e : MaybeSizeRead). onMaybeSize e bad f) (sym k ∙ h)
+
+  pub no-maybe-size : (f : MaybeSize → ℕ → A) {r e : MaybeSizeRead} → r ≡ e → r ≡ MaybeSizeRead.Wrong → x ≡ bad → x ≡ onMaybeSize e bad f
+  no-maybe-size f h k t = t ∙ ap (λ (e : MaybeSizeRead). onMaybeSize e bad f) (sym k ∙ h)
+
 -- a chain of keys: the first that stands there decides
 pub ruleset chain = (found, no-found)
 
 -- a line with a number
-pub ruleset via = (chain, number, no-number, bit, no-bit, modifier, no-modifier, maybe-number, no-maybe-number)
+pub ruleset via = (chain, number, no-number, bit, no-bit, modifier, no-modifier, maybe-number, no-maybe-number, maybe-size, no-maybe-size)

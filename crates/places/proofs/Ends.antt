@@ -8,10 +8,12 @@ use native.Mathlib.Omega.{arith}
 use lib.Dec.{ltb, eqb}
 use lib.ListN.{length, drop, length-drop}
 use Rattle.definitions.specs.Bytes.{Text, text, isDigit, isWord}
-use Rattle.definitions.specs.Record.{keyOf, keyAt, digitsOf, numberOf, numberAt, partOf, wordOf, nameOf, isForbidden, nameAt, onFound, onNumber, onName, onBit, onModifier, onMaybeNumber, onMaybePart, onPart, onDesc, onCond, numberLine, nameLine, bitAt, bitLine, maybeNumberAt, maybeNumberLine, maybeNameAt, maybeNameLine, modifierAt, modifierLine, namedWidth, scalarAt, sizeAt, countAt, elementSizeAt, fixedScalarAt, fixedEnumAt, reservedAt, flagAt, typedefAt, oneArray, arrayRest, arrayAt, payloadAt, paddingAt, checksumAt, Kinds, choose, kinds, descAt, condAt, fieldAt, packetAt, structAt, enumAt, checksumDeclAt, customAt, declAt}
+use Rattle.definitions.specs.Record.{keyOf, keyAt, digitsOf, numberOf, numberAt, partOf, wordOf, nameOf, isForbidden, nameAt, onFound, onNumber, onName, onBit, onModifier, onMaybeNumber, onMaybeSize, onMaybePart, onPart, onDesc, onCond, numberLine, nameLine, bitAt, bitLine, maybeNumberAt, maybeNumberLine, maybeNameAt, maybeNameLine, modifierAt, modifierLine, statedAt, bitsLine, namedWidth, scalarAt, sizeAt, countAt, elementSizeAt, fixedScalarAt, fixedEnumAt, reservedAt, flagAt, typedefAt, oneArray, arrayRest, arrayAt, payloadAt, paddingAt, checksumAt, Kinds, choose, kinds, descAt, condAt, fieldAt, packetAt, structAt, enumAt, checksumDeclAt, customAt, declAt}
 use Rattle.definitions.specs.declared.Part.{Part}
 use Rattle.definitions.specs.declared.MaybePart.{MaybePart}
 use Rattle.definitions.specs.declared.MaybeNumber.{MaybeNumber}
+use Rattle.definitions.specs.declared.Size.{Size}
+use Rattle.definitions.specs.declared.MaybeSize.{MaybeSize}
 use Rattle.definitions.specs.declared.Modifier.{Modifier}
 use Rattle.definitions.specs.declared.FieldDesc.{FieldDesc}
 use Rattle.definitions.specs.declared.Cond.{Cond}
@@ -24,6 +26,7 @@ use Rattle.definitions.specs.declared.NameRead.{NameRead}
 use Rattle.definitions.specs.declared.BitRead.{BitRead}
 use Rattle.definitions.specs.declared.ModifierRead.{ModifierRead}
 use Rattle.definitions.specs.declared.MaybeNumberRead.{MaybeNumberRead}
+use Rattle.definitions.specs.declared.MaybeSizeRead.{MaybeSizeRead}
 use Rattle.definitions.specs.declared.MaybePartRead.{MaybePartRead}
 use Rattle.definitions.specs.declared.DescRead.{DescRead}
 use Rattle.definitions.specs.declared.CondRead.{CondRead}
@@ -66,6 +69,10 @@ module _ (low high : ℕ) where
   abbrev MaybeNumberEnds : MaybeNumberRead → Type 0
   MaybeNumberEnds (MaybeNumberRead.Is n p) = Ends low high p
   MaybeNumberEnds MaybeNumberRead.Wrong = Unit {0}
+
+  abbrev MaybeSizeEnds : MaybeSizeRead → Type 0
+  MaybeSizeEnds (MaybeSizeRead.Is n p) = Ends low high p
+  MaybeSizeEnds MaybeSizeRead.Wrong = Unit {0}
 
   abbrev MaybePartEnds : MaybePartRead → Type 0
   MaybePartEnds (MaybePartRead.Is n p) = Ends low high p
@@ -114,6 +121,11 @@ module _ (low high : ℕ) where
         → Q (onMaybeNumber r bad f)
     on-maybe-number (MaybeNumberRead.Is n p) f e h = h n p e
     on-maybe-number MaybeNumberRead.Wrong f e h = b
+
+    on-maybe-size : (r : MaybeSizeRead) (f : MaybeSize → ℕ → A) → MaybeSizeEnds r → ((n : MaybeSize) (p : ℕ) → Ends low high p → Q (f n p))
+        → Q (onMaybeSize r bad f)
+    on-maybe-size (MaybeSizeRead.Is n p) f e h = h n p e
+    on-maybe-size MaybeSizeRead.Wrong f e h = b
 
     on-maybe-part : (r : MaybePartRead) (f : MaybePart → ℕ → A) → MaybePartEnds r → ((n : MaybePart) (p : ℕ) → Ends low high p → Q (f n p))
         → Q (onMaybePart r bad f)
@@ -321,6 +333,21 @@ module _ (s : Text) where
             on-number low (length s) (ModifierEnds low (length s)) ModifierRead.Wrong tt (numberAt s p) (λ n q. ModifierRead.Is (sign n) q)
             (number-ends low p e) λ n q k. k
 
+  -- a line that need not be there
+  bits-line : (low at : ℕ) → Ends low (length s) at → MaybeSizeEnds low (length s) (bitsLine s at)
+  unfolding bitsLine
+  bits-line low at k =
+      on-found low (length s) (MaybeSizeEnds low (length s)) (MaybeSizeRead.Is MaybeSize.None at) k (keyAt s at (text "bits=")) (λ p. statedAt s p)
+      (key-ends low at (text "bits=") (omega arith) (omega (arith, k .least)))
+      λ p e. on-found low (length s) (MaybeSizeEnds low (length s)) _
+      (on-found low (length s) (MaybeSizeEnds low (length s)) _
+      (on-number low (length s) (MaybeSizeEnds low (length s)) MaybeSizeRead.Wrong tt (numberAt s p)
+      (λ n q. MaybeSizeRead.Is (MaybeSize.Some (Size.Static n)) q) (number-ends low p e) λ n q i. i)
+      (keyAt s p (text "unknown\n")) (λ q. MaybeSizeRead.Is (MaybeSize.Some Size.Unknown) q)
+      (key-ends low p (text "unknown\n") (omega arith) (omega (arith, e .least))) λ q i. i)
+      (keyAt s p (text "dynamic\n")) (λ q. MaybeSizeRead.Is (MaybeSize.Some Size.Dynamic) q)
+      (key-ends low p (text "dynamic\n") (omega arith) (omega (arith, e .least))) λ q i. i
+
   -- ---- the kinds of a field
 
   module _ (low at : ℕ) (k : Ends low (length s) at) where
@@ -496,12 +523,14 @@ module _ (s : Text) where
 
     parented : (desc : MaybePart → DeclDesc)
         → DeclTo (onName (nameLine s p (text "name=")) DeclRead.Wrong λ id q.
-        onMaybePart (maybeNameLine s q (text "parent=")) DeclRead.Wrong λ parent r. DeclRead.Is (record { key = at; id = id; desc = desc parent }) r)
+        onMaybePart (maybeNameLine s q (text "parent=")) DeclRead.Wrong λ parent r.
+        onMaybeSize (bitsLine s r) DeclRead.Wrong λ bits t. DeclRead.Is (record { key = at; id = id; bits = bits; desc = desc parent }) t)
     unfolding DeclTo
     parented desc =
         then-named _ λ id q e.
         on-maybe-part (at + 16) (length s) DeclTo DeclRead.Wrong tt (maybeNameLine s q (text "parent=")) _
-        (maybe-name-line (at + 16) q (text "parent=") (omega arith) (omega arith)) λ n r u. u
+        (maybe-name-line (at + 16) q (text "parent=") (omega arith) (omega arith)) λ n r u.
+        on-maybe-size (at + 16) (length s) DeclTo DeclRead.Wrong tt (bitsLine s r) _ (bits-line (at + 16) r u) λ b t v. v
 
     packet-ends : DeclTo (packetAt s at p)
     unfolding packetAt

@@ -322,7 +322,7 @@ with-long s i at t = by (screenDecl s (declAt s at))
 
     row-long : (d : Decl) (xs : List Field) (r : FieldsRead) → Long t (onFreeFields r (withFields t i xs) λ n q. withDecl (withFields t i xs) i d n)
     row-long d xs (FieldsRead.Is n q) = record {
-      long-rows = length-sets (t .rows) (i * 11) (declWords d ++ (n ∷ []));
+      long-rows = length-sets (t .rows) (i * 13) (declWords d ++ (n ∷ []));
       long-values = fields-long xs .long-values;
       long-fields = fields-long xs .long-fields;
     }

@@ -190,12 +190,12 @@ field-kept : (a b : List ℕ) (at n : ℕ) → Same n a b → at / 16 * 17 + 17 
 unfolding fieldHere
 field-kept a b at n e h = field-same a b (at / 16 * 17) (at / 16 * 17) (λ k l. e (at / 16 * 17 + k) (omega (arith, l, h)))
 
-decl-kept : (a b : List ℕ) (i : ℕ) → Same ((i + 1) * 11) a b → declHere a i ≡ declHere b i
+decl-kept : (a b : List ℕ) (i : ℕ) → Same ((i + 1) * 13) a b → declHere a i ≡ declHere b i
 unfolding declHere
-decl-kept a b i e = decl-same a b (i * 11) (i * 11) (λ k l. e (i * 11 + k) (omega (arith, l)))
+decl-kept a b i e = decl-same a b (i * 13) (i * 13) (λ k l. e (i * 13 + k) (omega (arith, l)))
 
-count-kept : (a b : List ℕ) (i : ℕ) → Same ((i + 1) * 11) a b → countHere a i ≡ countHere b i
-count-kept a b i e = e (i * 11 + 7) (omega arith)
+count-kept : (a b : List ℕ) (i : ℕ) → Same ((i + 1) * 13) a b → countHere a i ≡ countHere b i
+count-kept a b i e = e (i * 13 + 9) (omega arith)
 
 -- ---- the values: fields that are 16 bytes or more apart have numbers of their own
 
@@ -262,22 +262,22 @@ all-back v low end (d ∷ ds) (Spaced.more mid a p) h =
 
 -- ---- the rows
 
-rows-below : (t : List ℕ) (i : ℕ) (ds : List Declaration) → Same (i * 11) (withRows t i ds) t
+rows-below : (t : List ℕ) (i : ℕ) (ds : List Declaration) → Same (i * 13) (withRows t i ds) t
 rows-below t i [] k h = refl
 rows-below t i (d ∷ ds) k h =
     rows-below (withRow t i (d .decl) (length (d .fields))) (i + 1) ds k (omega arith)
-    ∙ getD-before t (i * 11) (declWords (d .decl) ++ (length (d .fields) ∷ [])) k h
+    ∙ getD-before t (i * 13) (declWords (d .decl) ++ (length (d .fields) ∷ [])) k h
 
 length-row : (t : List ℕ) (i : ℕ) (d : Decl) (n : ℕ) → length (withRow t i d n) ≡ length t
-length-row t i d n = length-sets t (i * 11) (declWords d ++ (n ∷ []))
+length-row t i d n = length-sets t (i * 13) (declWords d ++ (n ∷ []))
 
 -- the counts, also of a declaration with more than 64 fields
 pub data Counted (rows : List ℕ) : ℕ → List Declaration → Type 0 where
   done : {i : ℕ} → Counted rows i []
   more : {i : ℕ} {d : Declaration} {ds : List Declaration} → countHere rows i ≡ length (d .fields) → Counted rows (i + 1) ds → Counted rows i (d ∷ ds)
 
-module _ (t : List ℕ) (i : ℕ) (d : Declaration) (ds : List Declaration) (h : (i + 1) * 11 ≤ length t) where
-  first-kept : Same ((i + 1) * 11) (withRows t i (d ∷ ds)) (withRow t i (d .decl) (length (d .fields)))
+module _ (t : List ℕ) (i : ℕ) (d : Declaration) (ds : List Declaration) (h : (i + 1) * 13 ≤ length t) where
+  first-kept : Same ((i + 1) * 13) (withRows t i (d ∷ ds)) (withRow t i (d .decl) (length (d .fields)))
   first-kept = rows-below (withRow t i (d .decl) (length (d .fields))) (i + 1) ds
 
   first-count : countHere (withRows t i (d ∷ ds)) i ≡ length (d .fields)
@@ -290,14 +290,14 @@ module _ (t : List ℕ) (i : ℕ) (d : Declaration) (ds : List Declaration) (h :
       decl-kept (withRows t i (d ∷ ds)) (withRow t i (d .decl) (length (d .fields))) i first-kept
       ∙ decl-again t i (d .decl) (length (d .fields)) (omega arith)
 
-rows-counted : (ds : List Declaration) (t : List ℕ) (i : ℕ) → (i + length ds) * 11 ≤ length t → Counted (withRows t i ds) i ds
+rows-counted : (ds : List Declaration) (t : List ℕ) (i : ℕ) → (i + length ds) * 13 ≤ length t → Counted (withRows t i ds) i ds
 rows-counted [] t i h = Counted.done
 rows-counted (d ∷ ds) t i h =
     Counted.more (first-count t i d ds (omega arith))
     (rows-counted ds (withRow t i (d .decl) (length (d .fields))) (i + 1) (omega (arith, length-row t i (d .decl) (length (d .fields)))))
 
 pub counts-give : (s : Text) (fuel at : ℕ) (t : Tables) (ds : List Declaration) → declarationsAt s fuel at ≡ declarationsAre ds
-    → anyKeyword s (declarationsNames ds) ≡ false → length ds * 11 ≤ length (t .rows) → Counted (tablesFrom s fuel 0 at t .rows) 0 ds
+    → anyKeyword s (declarationsNames ds) ≡ false → length ds * 13 ≤ length (t .rows) → Counted (tablesFrom s fuel 0 at t .rows) 0 ds
 counts-give s fuel at t ds e free h =
     subst (λ (l : List ℕ). Counted l 0 ds) (sym (tables-hold s fuel 0 at t ds e free .rows-are)) (rows-counted ds (t .rows) 0 (omega arith))
 
@@ -314,7 +314,7 @@ pub data Short : List Declaration → Type 0 where
   done : Short []
   more : {d : Declaration} {ds : List Declaration} → length (d .fields) ≤ 64 → Short ds → Short (d ∷ ds)
 
-rows-hold : (ds : List Declaration) (t f : List ℕ) (i : ℕ) → Short ds → (i + length ds) * 11 ≤ length t → (i + length ds) * 64 ≤ length f
+rows-hold : (ds : List Declaration) (t f : List ℕ) (i : ℕ) → Short ds → (i + length ds) * 13 ≤ length t → (i + length ds) * 64 ≤ length f
     → Rows (withRows t i ds) (withPlaces f i ds) i ds
 rows-hold [] t f i k lt lf = Rows.done
 rows-hold (d ∷ ds) t f i (Short.more small k) lt lf =
@@ -367,7 +367,7 @@ rows-give x v y i (d ∷ ds) (Rows.more ex ez ly ey r) (Backs.more hf b) =
 
 -- THE BRIDGE: tables that are long enough give the declarations of the record back, where no name is a keyword
 pub tables-give : (s : Text) (fuel at : ℕ) (t : Tables) (ds : List Declaration) → declarationsAt s fuel at ≡ declarationsAre ds
-    → anyKeyword s (declarationsNames ds) ≡ false → Short ds → length ds * 11 ≤ length (t .rows) → length s / 16 * 17 ≤ length (t .values)
+    → anyKeyword s (declarationsNames ds) ≡ false → Short ds → length ds * 13 ≤ length (t .rows) → length s / 16 * 17 ≤ length (t .values)
     → length ds * 64 ≤ length (t .fields) → given (tablesFrom s fuel 0 at t) (length ds) ≡ ds
 tables-give s fuel at t ds e free k lr lv lf =
     rw (h .rows-are, h .values-are, h .fields-are)

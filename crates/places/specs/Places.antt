@@ -104,7 +104,7 @@ declRead s kept at =
 
 -- a row with the declaration of the index i, which has n fields
 abbrev pub withRow : List ℕ → ℕ → Decl → ℕ → List ℕ
-withRow rows i d n = sets rows (i * 11) (declWords d ++ (n ∷ []))
+withRow rows i d n = sets rows (i * 13) (declWords d ++ (n ∷ []))
 
 -- the declaration with the index i, whose fields were read before
 abbrev pub withDecl : Tables → ℕ → Decl → ℕ → Tables

@@ -2,14 +2,15 @@
 -- Assumes nothing.
 use Prim.Native.Nat.{ℕ}
 use mathlib.Core.Bool.{Bool, true, false, _||_}
-use mathlib.Core.List.{[], _∷_, _++_}
+use mathlib.Core.List.{_∷_}
 use mathlib.Core.Path.{_≡_, refl, sym, ap, _∙_}
 use Rattle.definitions.specs.Bytes.{Text, text, part, pick}
 use Rattle.definitions.specs.Keywords.{isKeyword}
-use Rattle.definitions.specs.Record.{keyAt, onFound, onNumber, onBit, onMaybeNumber, onPart, onCond, onDesc, numberLine, bitLine, nameLine, maybeNameLine, maybeNumberLine, descAt, condAt, fieldAt, parentedAt, enumAt, checksumDeclAt, customAt}
+use Rattle.definitions.specs.Record.{keyAt, onFound, onNumber, onBit, onMaybeNumber, onMaybeSize, onPart, onCond, onDesc, numberLine, bitLine, nameLine, maybeNameLine, bitsLine, maybeNumberLine, descAt, condAt, fieldAt, parentedAt, enumAt, checksumDeclAt, customAt}
 use Rattle.definitions.specs.Refusals.{anyKeyword, maybeName, descNames, condNames}
 use Rattle.definitions.specs.declared.Part.{Part}
 use Rattle.definitions.specs.declared.MaybePart.{MaybePart}
+use Rattle.definitions.specs.declared.MaybeSize.{MaybeSize}
 use Rattle.definitions.specs.declared.Arrays.{Arrays}
 use Rattle.definitions.specs.declared.EndiannessValue.{EndiannessValue}
 use Rattle.definitions.specs.declared.Options.{Options}
@@ -18,7 +19,6 @@ use Rattle.definitions.specs.declared.Cond.{Cond}
 use Rattle.definitions.specs.declared.Field.{Field}
 use Rattle.definitions.specs.declared.DeclDesc.{DeclDesc}
 use Rattle.definitions.specs.declared.Decl.{Decl}
-use Rattle.definitions.specs.declared.Head.{Head}
 use Rattle.definitions.specs.declared.Found.{Found}
 use Rattle.definitions.specs.declared.NumberRead.{NumberRead}
 use Rattle.definitions.specs.declared.DescRead.{DescRead}
@@ -35,7 +35,7 @@ use Rattle.definitions.specs.declared.ScreenedDecl.{ScreenedDecl}
 use Rattle.definitions.specs.declared.ScreenedHead.{ScreenedHead}
 use Rattle.keywords.specs.Screens.{freeName, freePart, screenName, screenPart, screenDesc, screenCond, screenField, screenDecl, screenHead}
 use Rattle.keywords.proofs.Names.{keyword-append}
-use Rattle.keywords.proofs.Screened.{onScreened, onScreenedPart, onFree, onFreePart, after-found, after-number, after-bit, after-maybe-number, after-name, after-maybe-name, one-name, one-part, same-part}
+use Rattle.keywords.proofs.Screened.{onScreened, onScreenedPart, onFree, onFreePart, after-found, after-number, after-bit, after-maybe-number, after-maybe-size, after-name, after-maybe-name, one-name, one-part, same-part}
 use Rattle.readers.specs.Heads.{parented, targetAt, headOf}
 use Rattle.readers.specs.declared.Parented.{Parented}
 
@@ -167,44 +167,45 @@ module _ (s : Text) (at : ℕ) where
 -- ---- declarations
 
 module _ (s : Text) (at p : ℕ) where
-  abbrev declOf : Part → DeclDesc → Decl
-  declOf id desc = record { key = at; id = id; desc = desc }
+  abbrev declOf : Part → MaybeSize → DeclDesc → Decl
+  declOf id bits desc = record { key = at; id = id; bits = bits; desc = desc }
 
-  abbrev parentedOf : Parented → ScreenedName → ScreenedPart → ℕ → ScreenedDecl
-  parentedOf kind name parent t =
+  abbrev parentedOf : Parented → ScreenedName → ScreenedPart → MaybeSize → ℕ → ScreenedDecl
+  parentedOf kind name parent bits t =
       onFree name (ScreenedDecl.Keyword t true) λ id.
-      onFreePart parent (ScreenedDecl.Is (declOf id (parented kind MaybePart.None)) t) (ScreenedDecl.Keyword t true) λ a.
-      ScreenedDecl.Is (declOf id (parented kind (MaybePart.Some a))) t
+      onFreePart parent (ScreenedDecl.Is (declOf id bits (parented kind MaybePart.None)) t) (ScreenedDecl.Keyword t true) λ a.
+      ScreenedDecl.Is (declOf id bits (parented kind (MaybePart.Some a))) t
 
   abbrev pub parentedSteps : Parented → ScreenedDecl
   parentedSteps kind =
       onScreened (screenName s (nameLine s p (text "name="))) ScreenedDecl.Wrong λ name q.
-      onScreenedPart (screenPart s (maybeNameLine s q (text "parent="))) ScreenedDecl.Wrong λ parent t. parentedOf kind name parent t
+      onScreenedPart (screenPart s (maybeNameLine s q (text "parent="))) ScreenedDecl.Wrong λ parent t.
+      onMaybeSize (bitsLine s t) ScreenedDecl.Wrong λ bits u. parentedOf kind name parent bits u
 
   -- of a kind that has fields
-  parented-names : (kind : Parented) (id : Part) (parent : MaybePart) (t : ℕ)
-      → screenDecl s (DeclRead.Is (declOf id (parented kind parent)) t)
-      ≡ pick (anyKeyword s (id ∷ maybeName parent)) (ScreenedDecl.Keyword t true) (ScreenedDecl.Is (declOf id (parented kind parent)) t)
-  parented-names Parented.Packet id parent t = refl
-  parented-names Parented.Struct id parent t = refl
+  parented-names : (kind : Parented) (id : Part) (parent : MaybePart) (bits : MaybeSize) (t : ℕ)
+      → screenDecl s (DeclRead.Is (declOf id bits (parented kind parent)) t)
+      ≡ pick (anyKeyword s (id ∷ maybeName parent)) (ScreenedDecl.Keyword t true) (ScreenedDecl.Is (declOf id bits (parented kind parent)) t)
+  parented-names Parented.Packet id parent bits t = refl
+  parented-names Parented.Struct id parent bits t = refl
 
-  parented-of : (kind : Parented) (id : Part) (parent : MaybePart) (t : ℕ)
-      → parentedOf kind (freeName s id) (freePart s parent) t ≡ screenDecl s (DeclRead.Is (declOf id (parented kind parent)) t)
+  parented-of : (kind : Parented) (id : Part) (parent : MaybePart) (bits : MaybeSize) (t : ℕ)
+      → parentedOf kind (freeName s id) (freePart s parent) bits t ≡ screenDecl s (DeclRead.Is (declOf id bits (parented kind parent)) t)
   unfolding anyKeyword
-  parented-of kind id MaybePart.None t =
-      by (isKeyword (part s id)) ∙ sym (parented-names kind id MaybePart.None t)
+  parented-of kind id MaybePart.None bits t =
+      by (isKeyword (part s id)) ∙ sym (parented-names kind id MaybePart.None bits t)
     where
       by : (b : Bool)
-          → parentedOf kind (pick b ScreenedName.Keyword (ScreenedName.Free id)) ScreenedPart.None t
-          ≡ pick (b || false) (ScreenedDecl.Keyword t true) (ScreenedDecl.Is (declOf id (parented kind MaybePart.None)) t)
+          → parentedOf kind (pick b ScreenedName.Keyword (ScreenedName.Free id)) ScreenedPart.None bits t
+          ≡ pick (b || false) (ScreenedDecl.Keyword t true) (ScreenedDecl.Is (declOf id bits (parented kind MaybePart.None)) t)
       by true = refl
       by false = refl
-  parented-of kind id (MaybePart.Some a) t =
-      by (isKeyword (part s id)) (isKeyword (part s a)) ∙ sym (parented-names kind id (MaybePart.Some a) t)
+  parented-of kind id (MaybePart.Some a) bits t =
+      by (isKeyword (part s id)) (isKeyword (part s a)) ∙ sym (parented-names kind id (MaybePart.Some a) bits t)
     where
       by : (b c : Bool)
-          → parentedOf kind (pick b ScreenedName.Keyword (ScreenedName.Free id)) (pick c ScreenedPart.Keyword (ScreenedPart.Free a)) t
-          ≡ pick (b || (c || false)) (ScreenedDecl.Keyword t true) (ScreenedDecl.Is (declOf id (parented kind (MaybePart.Some a))) t)
+          → parentedOf kind (pick b ScreenedName.Keyword (ScreenedName.Free id)) (pick c ScreenedPart.Keyword (ScreenedPart.Free a)) bits t
+          ≡ pick (b || (c || false)) (ScreenedDecl.Keyword t true) (ScreenedDecl.Is (declOf id bits (parented kind (MaybePart.Some a))) t)
       by true c = refl
       by false true = refl
       by false false = refl
@@ -213,12 +214,15 @@ module _ (s : Text) (at p : ℕ) where
   parented-steps kind e =
       e
       ∙ after-name (screenDecl s) DeclRead.Wrong s _
-      (λ id q. after-maybe-name (screenDecl s) DeclRead.Wrong s _ (λ parent t. parented-of kind id parent t) (maybeNameLine s q (text "parent=")))
+      (λ id q.
+      after-maybe-name (screenDecl s) DeclRead.Wrong s _
+      (λ parent t. after-maybe-size (screenDecl s) DeclRead.Wrong (λ bits u. parented-of kind id parent bits u) (bitsLine s t))
+      (maybeNameLine s q (text "parent=")))
       (nameLine s p (text "name="))
 
   -- of a kind that has none
   abbrev plainOf : ScreenedName → DeclDesc → ℕ → ScreenedDecl
-  plainOf name desc t = onFree name (ScreenedDecl.Keyword t false) λ id. ScreenedDecl.Is (declOf id desc) t
+  plainOf name desc t = onFree name (ScreenedDecl.Keyword t false) λ id. ScreenedDecl.Is (declOf id MaybeSize.None desc) t
 
   abbrev pub enumSteps : ScreenedDecl
   enumSteps =
@@ -239,7 +243,7 @@ module _ (s : Text) (at p : ℕ) where
       (λ isOpen u.
       after-bit (screenDecl s) DeclRead.Wrong
       (λ isComplete v.
-      one-name (ScreenedDecl.Keyword v false) id (λ id. ScreenedDecl.Is (declOf id (DeclDesc.Enum width isOpen isComplete)) v) (isKeyword (part s id)))
+      one-name (ScreenedDecl.Keyword v false) id (λ id. ScreenedDecl.Is (declOf id MaybeSize.None (DeclDesc.Enum width isOpen isComplete)) v) (isKeyword (part s id)))
       (bitLine s u (text "complete=")))
       (bitLine s t (text "open=")))
       (numberLine s q (text "width=")))
@@ -258,7 +262,7 @@ module _ (s : Text) (at p : ℕ) where
       (λ id q.
       after-number (screenDecl s) DeclRead.Wrong
       (λ width t.
-      one-name (ScreenedDecl.Keyword t false) id (λ id. ScreenedDecl.Is (declOf id (DeclDesc.Checksum width)) t) (isKeyword (part s id)))
+      one-name (ScreenedDecl.Keyword t false) id (λ id. ScreenedDecl.Is (declOf id MaybeSize.None (DeclDesc.Checksum width)) t) (isKeyword (part s id)))
       (numberLine s q (text "width=")))
       (nameLine s p (text "name="))
 
@@ -275,7 +279,7 @@ module _ (s : Text) (at p : ℕ) where
       (λ id q.
       after-maybe-number (screenDecl s) DeclRead.Wrong
       (λ width t.
-      one-name (ScreenedDecl.Keyword t false) id (λ id. ScreenedDecl.Is (declOf id (DeclDesc.CustomField width)) t) (isKeyword (part s id)))
+      one-name (ScreenedDecl.Keyword t false) id (λ id. ScreenedDecl.Is (declOf id MaybeSize.None (DeclDesc.CustomField width)) t) (isKeyword (part s id)))
       (maybeNumberLine s q (text "width=")))
       (nameLine s p (text "name="))
 

@@ -12,9 +12,10 @@ use definitions::Found;
 use definitions::Head;
 use definitions::MaybeNumberRead;
 use definitions::MaybePart;
+use definitions::MaybeSize;
+use definitions::MaybeSizeRead;
 use definitions::NumberRead;
 use definitions::Options;
-use definitions::Part;
 use definitions::ScreenedCond;
 use definitions::ScreenedDecl;
 use definitions::ScreenedDesc;
@@ -27,7 +28,6 @@ use definitions::ScreenedPartRead;
 ghost use mathlib.Core.Path.{_≡_};
 ghost use Rattle.definitions.specs.Record.{condAt, fieldAt, parentedAt, enumAt, checksumDeclAt, customAt, declAt, headAt};
 ghost use Rattle.keywords.specs.Screens.{screenCond, screenField, screenDecl, screenHead};
-ghost use Rattle.definitions.specs.declared.ScreenedDecl.{ScreenedDecl};
 ghost use Rattle.readers.specs.Heads.{parented, targetAt, headOf};
 
 // `if=-`, or `if=NAME` and `is=NUMBER`.
@@ -87,23 +87,16 @@ enum Parented {
 }
 
 // A packet or a struct of this parent.
-fn parented_of(
-    at: usize,
-    id: Part,
-    parent_id: MaybePart,
-    next: usize,
-    kind: Parented,
-) -> ScreenedDecl
-    ensures { λ r. ⌜ r ≡ ScreenedDecl.Is (record { key = at; id = id; desc = parented kind «parent_id» }) next ⌝ }
+fn parented_of(parent_id: MaybePart, kind: Parented) -> DeclDesc
+    ensures { λ r. ⌜ r ≡ parented kind «parent_id» ⌝ }
 {
-    let desc = match kind {
+    match kind {
         Parented::Packet => DeclDesc::Packet { parent_id },
         Parented::Struct => DeclDesc::Struct { parent_id },
-    };
-    ScreenedDecl::Is(Decl { key: at, id, desc }, next)
+    }
 }
 
-// `name` and `parent` of a packet or a struct, whose `decl` line stands at `at` and ends at `p`.
+// `name`, `parent` and `bits` of a packet or a struct, whose `decl` line stands at `at` and ends at `p`.
 fn parented_at(rec: &[u8], at: usize, p: usize, kind: Parented) -> ScreenedDecl
     ensures { λ r. ⌜ r ≡ screenDecl (now (rec .entry)) (parentedAt (parented kind) (now (rec .entry)) at p) ⌝ }
 {
@@ -113,13 +106,38 @@ fn parented_at(rec: &[u8], at: usize, p: usize, kind: Parented) -> ScreenedDecl
     let ScreenedPartRead::Is(parent, t) = keys::maybe_name_line(rec, q, b"parent=") else {
         return ScreenedDecl::Wrong;
     };
+    let MaybeSizeRead::Is(bits, u) = keys::bits_line(rec, t) else {
+        return ScreenedDecl::Wrong;
+    };
     let ScreenedName::Free(id) = name else {
-        return ScreenedDecl::Keyword(t, true);
+        return ScreenedDecl::Keyword(u, true);
     };
     match parent {
-        ScreenedPart::None => parented_of(at, id, MaybePart::None, t, kind),
-        ScreenedPart::Free(parent_id) => parented_of(at, id, MaybePart::Some(parent_id), t, kind),
-        ScreenedPart::Keyword => ScreenedDecl::Keyword(t, true),
+        ScreenedPart::None => {
+            let desc = parented_of(MaybePart::None, kind);
+            ScreenedDecl::Is(
+                Decl {
+                    key: at,
+                    id,
+                    bits,
+                    desc,
+                },
+                u,
+            )
+        }
+        ScreenedPart::Free(parent_id) => {
+            let desc = parented_of(MaybePart::Some(parent_id), kind);
+            ScreenedDecl::Is(
+                Decl {
+                    key: at,
+                    id,
+                    bits,
+                    desc,
+                },
+                u,
+            )
+        }
+        ScreenedPart::Keyword => ScreenedDecl::Keyword(u, true),
     }
 }
 
@@ -147,7 +165,15 @@ fn enum_at(rec: &[u8], at: usize, p: usize) -> ScreenedDecl
         open,
         complete,
     };
-    ScreenedDecl::Is(Decl { key: at, id, desc }, v)
+    ScreenedDecl::Is(
+        Decl {
+            key: at,
+            id,
+            bits: MaybeSize::None,
+            desc,
+        },
+        v,
+    )
 }
 
 // `name` and `width` of a checksum.
@@ -164,7 +190,15 @@ fn checksum_decl_at(rec: &[u8], at: usize, p: usize) -> ScreenedDecl
         return ScreenedDecl::Keyword(t, false);
     };
     let desc = DeclDesc::Checksum { width };
-    ScreenedDecl::Is(Decl { key: at, id, desc }, t)
+    ScreenedDecl::Is(
+        Decl {
+            key: at,
+            id,
+            bits: MaybeSize::None,
+            desc,
+        },
+        t,
+    )
 }
 
 // `name` and `width` (or `-`) of a custom.
@@ -181,7 +215,15 @@ fn custom_at(rec: &[u8], at: usize, p: usize) -> ScreenedDecl
         return ScreenedDecl::Keyword(t, false);
     };
     let desc = DeclDesc::CustomField { width };
-    ScreenedDecl::Is(Decl { key: at, id, desc }, t)
+    ScreenedDecl::Is(
+        Decl {
+            key: at,
+            id,
+            bits: MaybeSize::None,
+            desc,
+        },
+        t,
+    )
 }
 
 // The lines of a declaration before its fields.

@@ -31,7 +31,7 @@ use Rattle.record.specs.declared.Reading.{Reading}
 
 -- the lengths of document 01, and room for the values of the record's fields
 pub record Whole (s : Text) (t : Tables) : Type 0 where
-  pub declarations : length (t .rows) ≡ 352
+  pub declarations : length (t .rows) ≡ 416
   pub values : valuesRoom s ≤ length (t .values)
   pub fields : length (t .fields) ≡ 2048
 

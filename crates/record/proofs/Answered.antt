@@ -11,7 +11,7 @@ use Rattle.definitions.specs.Bytes.{Text, part, pick}
 use Rattle.definitions.specs.Keywords.{isKeyword}
 use Rattle.definitions.specs.Record.{Declaration, Declarations, declarationsAre, noDeclarations, RecordRead, recordIs, noRecord, onHead, headAt, declarationsAt, withHead, readRecord}
 use Rattle.definitions.specs.Sizes.{Schema, newSchema}
-use Rattle.definitions.specs.Refusals.{anyKeyword, declarationsNames, keywordName, tooMany, duplicateName, unknownName, outOfRange, large, ragged, noTarget, refuseIf, verdict}
+use Rattle.definitions.specs.Refusals.{anyKeyword, declarationsNames, keywordName, tooMany, duplicateName, unknownName, outOfRange, large, ragged, misstated, noTarget, refuseIf, verdict}
 use Rattle.definitions.specs.FieldParser.{refused}
 use Rattle.definitions.specs.Answer.{wrongLength, lowerRecord, answerRead, answer}
 use Rattle.definitions.specs.declared.Head.{Head}
@@ -29,13 +29,15 @@ use Rattle.record.specs.declared.Reading.{Reading}
 use Rattle.record.proofs.Verdicts.{many-bare}
 use Rattle.record.proofs.Agree.{Whole, few-given, reading-wrong, reading-right, after-right, afterHead, filled}
 
--- ---- 16 and 3 to 6, then 7 to 9
+-- ---- 16 and 3 to 6, then 7, 8, 17 and 9
 
 -- the rest of `verdict`
 abbrev pub laterVerdict : Text → Head → Schema → Verdict
 laterVerdict s h schema =
     refuseIf (large schema) Refusal.TooLarge
-    (refuseIf (ragged s schema) Refusal.NotWholeBytes (refuseIf (noTarget s h schema) Refusal.NoTarget Verdict.Pass))
+    (refuseIf (ragged s schema) Refusal.NotWholeBytes
+    (refuseIf (misstated schema) Refusal.Misstated
+    (refuseIf (noTarget s h schema) Refusal.NoTarget Verdict.Pass)))
 
 -- one refusal before the others
 abbrev pub onVerdict : Verdict → Verdict → Verdict

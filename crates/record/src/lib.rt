@@ -79,7 +79,7 @@ fn read_tables(rec: &[u8], rows: &mut [u64], values: &mut [u64], fields: &mut [u
 // The reader, with tables of 32 declarations and 2,048 fields, and room for the values of the record's fields.
 pub fn read_record(
     rec: &[u8],
-    rows: &mut [u64; 352],
+    rows: &mut [u64; 416],
     values: &mut [u64],
     fields: &mut [u16; 2048],
 ) -> Reading

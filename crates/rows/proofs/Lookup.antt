@@ -30,11 +30,11 @@ no-bits : Size.Static 0 ≡ decode 0
 no-bits = decode-static (omega arith)
 
 module _ (rows : List ℕ) (i k : ℕ) where
-  pub size-past : length rows / 11 < i → Size.Static 0 ≡ decode (getD rows (i * 11 + k) 0)
-  size-past h = decode-outside rows (i * 11 + k) (omega (arith, div-lt-iff-lt-mul {k = 11} {x = length rows} {y = i} (omega arith) .0 h)) no-bits
+  pub size-past : length rows / 13 < i → Size.Static 0 ≡ decode (getD rows (i * 13 + k) 0)
+  size-past h = decode-outside rows (i * 13 + k) (omega (arith, div-lt-iff-lt-mul {k = 13} {x = length rows} {y = i} (omega arith) .0 h)) no-bits
 
-  pub size-behind : length rows ≤ k → Size.Static 0 ≡ decode (getD rows (i * 11 + k) 0)
-  size-behind h = decode-outside rows (i * 11 + k) (omega arith) no-bits
+  pub size-behind : length rows ≤ k → Size.Static 0 ≡ decode (getD rows (i * 13 + k) 0)
+  size-behind h = decode-outside rows (i * 13 + k) (omega arith) no-bits
 
 -- ---- the look-up
 
@@ -76,8 +76,8 @@ module _ (s rows : List ℕ) (n : ℕ) (name : Part) {r : Found} (e : r ≡ whic
     pub enum-found : {d : Decl} → d ≡ declHere rows i → {t : EnumOf} → t ≡ descEnum (d .desc) → t ≡ enumOf s (rowsFrom rows 0 n) name
     enum-found ed et = et ∙ ap (λ (d : Decl). descEnum (d .desc)) ed ∙ sym (ap (λ (o : Option Row). enumOn o) (looked h))
 
-    module _ {a b : Size} (ea : a ≡ decode (getD rows (i * 11 + 8) 0)) (eb : b ≡ decode (getD rows (i * 11 + 9) 0)) {x : Size} (ex : x ≡ addSize a b) where
-      pub total-found : {c : Size} → c ≡ decode (getD rows (i * 11 + 10) 0) → {y : Size} → y ≡ addSize x c → y ≡ totalOf s (rowsFrom rows 0 n) name
+    module _ {a b : Size} (ea : a ≡ decode (getD rows (i * 13 + 10) 0)) (eb : b ≡ decode (getD rows (i * 13 + 11) 0)) {x : Size} (ex : x ≡ addSize a b) where
+      pub total-found : {c : Size} → c ≡ decode (getD rows (i * 13 + 12) 0) → {y : Size} → y ≡ addSize x c → y ≡ totalOf s (rowsFrom rows 0 n) name
       total-found ec ey = ey ∙ rw (ex, ea, eb, ec) (sym (ap totalOn (looked h)))
 
       pub parent-found : {m : MaybePart} → m ≡ MaybePart.Some name → x ≡ parentOf s (rowsFrom rows 0 n) m

@@ -1,4 +1,4 @@
-// The rows of `Schema` (analyzer.rs), 11 numbers each in declaration order: what a declaration takes from those before it, looked up by name among
+// The rows of `Schema` (analyzer.rs), 13 numbers each in declaration order: what a declaration takes from those before it, looked up by name among
 // the first n. Each of the three sizes of a row stands there as a number.
 
 use definitions::DeclDesc;
@@ -19,34 +19,35 @@ ghost use Rattle.tables.specs.Tables.{rowsFrom};
 
 // Number k of row i as a size; that of no bits outside the table.
 fn size_in(rows: &[u64], i: usize, k: usize) -> Size
-    ensures { λ r. ⌜ r ≡ decode (getD (now (rows .entry)) (i * 11 + k) 0) ⌝ }
+    ensures { λ r. ⌜ r ≡ decode (getD (now (rows .entry)) (i * 13 + k) 0) ⌝ }
 {
     let n = rows.len();
-    if n / 11 < i {
+    if n / 13 < i {
         return Size::Static(0);
     }
     if n <= k {
         return Size::Static(0);
     }
-    bits::get_size(rows, i * 11 + k)
+    bits::get_size(rows, i * 13 + k)
 }
 
-fn own_size(rows: &[u64], i: usize) -> Size
-    ensures { λ r. ⌜ r ≡ decode (getD (now (rows .entry)) (i * 11 + 8) 0) ⌝ }
+// `schema.decl_size` of the declaration with the index i.
+pub fn own_size(rows: &[u64], i: usize) -> Size
+    ensures { λ r. ⌜ r ≡ decode (getD (now (rows .entry)) (i * 13 + 10) 0) ⌝ }
 {
-    size_in(rows, i, 8)
+    size_in(rows, i, 10)
 }
 
 fn parent_size(rows: &[u64], i: usize) -> Size
-    ensures { λ r. ⌜ r ≡ decode (getD (now (rows .entry)) (i * 11 + 9) 0) ⌝ }
+    ensures { λ r. ⌜ r ≡ decode (getD (now (rows .entry)) (i * 13 + 11) 0) ⌝ }
 {
-    size_in(rows, i, 9)
+    size_in(rows, i, 11)
 }
 
 fn payload_size(rows: &[u64], i: usize) -> Size
-    ensures { λ r. ⌜ r ≡ decode (getD (now (rows .entry)) (i * 11 + 10) 0) ⌝ }
+    ensures { λ r. ⌜ r ≡ decode (getD (now (rows .entry)) (i * 13 + 12) 0) ⌝ }
 {
-    size_in(rows, i, 10)
+    size_in(rows, i, 12)
 }
 
 // `schema.total_size` of a type by its name.

@@ -41,6 +41,6 @@ module _ (rows : List ℕ) (i u v w : ℕ) (s values fields : List ℕ) where
   entry-put er = same-entry (declaration-keep i) (rows-sized rows i u v w 0 i (omega arith)) er
 
 -- one size after the other
-pub sizes-put : (rows : List ℕ) (i : ℕ) (r : RowSizes) {a : List ℕ} → a ≡ set rows (i * 11 + 8) (encode (r .own))
-    → {b : List ℕ} → b ≡ set a (i * 11 + 9) (encode (r .parent)) → {c : List ℕ} → c ≡ set b (i * 11 + 10) (encode (r .payload)) → c ≡ putRow rows i r
+pub sizes-put : (rows : List ℕ) (i : ℕ) (r : RowSizes) {a : List ℕ} → a ≡ set rows (i * 13 + 10) (encode (r .own))
+    → {b : List ℕ} → b ≡ set a (i * 13 + 11) (encode (r .parent)) → {c : List ℕ} → c ≡ set b (i * 13 + 12) (encode (r .payload)) → c ≡ putRow rows i r
 sizes-put rows i r ea eb ec = rw (ec, eb, ea)

@@ -71,14 +71,14 @@ module _ (s rows v f : List ℕ) where
 
 pub record Going (s rows₀ v f : List ℕ) (m : ℕ) (rows : List ℕ) (i : ℕ) : Type 0 where
   pub small : i ≤ m
-  pub room : m * 11 ≤ length rows₀
+  pub room : m * 13 ≤ length rows₀
   pub long : length rows ≡ length rows₀
   pub parts : entriesFrom s rows v f 0 i ++ annotateFrom s (rowsFrom rows 0 i) (declarationsFrom rows v f i (m - i))
       ≡ newSchema s (declarationsFrom rows₀ v f 0 m)
   pub fine : any largeEntry (entriesFrom s rows v f 0 i) ≡ false
   pub table : sizedRows s rows v f i (m - i) ≡ sizedRows s rows₀ v f 0 m
 
-pub going-start : (s rows v f : List ℕ) (m : ℕ) → m * 11 ≤ length rows → Going s rows v f m rows 0
+pub going-start : (s rows v f : List ℕ) (m : ℕ) → m * 13 ≤ length rows → Going s rows v f m rows 0
 unfolding rowsFrom entriesFrom
 going-start s rows v f m room = record {
   small = omega arith;
@@ -162,7 +162,7 @@ module _ (s rows₀ v f : List ℕ) (m : ℕ) (rows : List ℕ) (i : ℕ) (g : G
       put : List ℕ
       put = putRow rows i r
 
-      within : i * 11 + 10 < length rows
+      within : i * 13 + 12 < length rows
       within = omega (arith, g .room, g .long)
 
       not-large : largeEntry e ≡ false

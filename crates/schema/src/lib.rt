@@ -138,20 +138,20 @@ fn row_at(rec: &[u8], rows: &[u64], values: &[u64], fields: &[u16], i: usize) ->
 // ---- the table
 
 fn put_row(rows: &mut [u64], i: usize, row: RowSizes)
-    requires { ⌜ i * 11 + 10 < length (now rows) ⌝ }
+    requires { ⌜ i * 13 + 12 < length (now rows) ⌝ }
     ensures { λ _. ⌜ now (rows .exit) ≡ putRow (now (rows .entry)) i row ⌝ }
 {
     let a = row.own;
     let b = row.parent;
     let c = row.payload;
-    bits::put_size(rows, i * 11 + 8, a);
-    bits::put_size(rows, i * 11 + 9, b);
-    bits::put_size(rows, i * 11 + 10, c);
+    bits::put_size(rows, i * 13 + 10, a);
+    bits::put_size(rows, i * 13 + 11, b);
+    bits::put_size(rows, i * 13 + 12, c);
 }
 
 // The sizes of the n declarations; true where 7 is met.
 pub fn schema(rec: &[u8], rows: &mut [u64], values: &[u64], fields: &[u16], n: usize) -> bool
-    requires { ⌜ n * 11 ≤ length (now rows) ⌝ }
+    requires { ⌜ n * 13 ≤ length (now rows) ⌝ }
     ensures { λ r. ⌜ Sized (now (rec .entry)) (now (rows .entry)) (now (values .entry)) (now (fields .entry)) n (now (rows .exit)) r ⌝ }
 {
     let mut i = 0;

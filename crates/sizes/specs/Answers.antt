@@ -1,4 +1,4 @@
--- Refusals 7 to 9 as the code answers them: the first that is met, or the index of the target.
+-- Refusals 7, 8, 17 and 9 as the code answers them, in this order: the first that is met, or the index of the target.
 -- Assumes nothing.
 use mathlib.Core.Bool.{Bool, true, false, _&&_}
 use mathlib.Core.List.{List, [], _∷_}
@@ -6,7 +6,7 @@ use mathlib.Core.Path.{_≡_}
 use Prim.Native.Nat.{ℕ, _+_}
 use Rattle.definitions.specs.Bytes.{Text, any}
 use Rattle.definitions.specs.Sizes.{Schema, Row, sameName, newSchema}
-use Rattle.definitions.specs.Refusals.{raggedField, ragged, large, isFrame}
+use Rattle.definitions.specs.Refusals.{raggedField, ragged, differs, misstated, large, isFrame}
 use Rattle.definitions.specs.declared.Field.{Field}
 use Rattle.definitions.specs.declared.Found.{Found}
 use Rattle.definitions.specs.declared.Head.{Head}
@@ -21,6 +21,13 @@ use Rattle.sizes.specs.declared.Sizing.{Sizing}
 unfoldable pub raggedFields : Text → List Row → List Field → Bool
 raggedFields s rows fs = any (raggedField s rows) fs
 
+-- 17, of the rows that the code has; `misstated` looks at no more of an entry
+abbrev pub misstatedRow : Row → Bool
+misstatedRow r = differs (r .decl .bits) (r .declSize)
+
+unfoldable pub misstatedRows : List Row → Bool
+misstatedRows rows = any misstatedRow rows
+
 -- the index of the first packet or struct with the target's name, where the first of the list has index i
 unfoldable pub targetFrom : Text → Part → ℕ → Schema → Found
 targetFrom s name i [] = Found.Nothing
@@ -32,11 +39,15 @@ abbrev pub targetOr : Found → Sizing
 targetOr (Found.At i) = Sizing.Target i
 targetOr Found.Nothing = Sizing.Refuse Refusal.NoTarget
 
--- 8 and 9
-unfoldable pub behindSchema : Text → Head → Schema → Sizing
-behindSchema s h schema = elim (ragged s schema) [ true ↦ Sizing.Refuse Refusal.NotWholeBytes | false ↦ targetOr (targetFrom s (h .target) 0 schema) ]
+-- 17 and 9
+unfoldable pub behindWhole : Text → Head → Schema → Sizing
+behindWhole s h schema = elim (misstated schema) [ true ↦ Sizing.Refuse Refusal.Misstated | false ↦ targetOr (targetFrom s (h .target) 0 schema) ]
 
--- 7 to 9
+-- 8 and those behind it
+unfoldable pub behindSchema : Text → Head → Schema → Sizing
+behindSchema s h schema = elim (ragged s schema) [ true ↦ Sizing.Refuse Refusal.NotWholeBytes | false ↦ behindWhole s h schema ]
+
+-- 7 and those behind it
 unfoldable pub checkSizes : Text → Head → Schema → Sizing
 checkSizes s h schema = elim (large schema) [ true ↦ Sizing.Refuse Refusal.TooLarge | false ↦ behindSchema s h schema ]
 

@@ -1,4 +1,4 @@
-// `element_size` (analyzer.rs), refusals 8 and 9, and refusals 7 to 9 one after the other over the tables of a record.
+// `element_size` (analyzer.rs), refusals 8, 9 and, of document 02, 17, and 7, 8, 17, 9 one after the other over the tables of a record.
 
 use annotate::ArrayParts;
 use definitions::Cond;
@@ -11,6 +11,7 @@ use definitions::Found;
 use definitions::Head;
 use definitions::MaybeNumber;
 use definitions::MaybePart;
+use definitions::MaybeSize;
 use definitions::Part;
 use definitions::Refusal;
 use definitions::Size;
@@ -21,11 +22,11 @@ ghost use Prim.Native.Nat.{ℕ, _*_, _≤_};
 ghost use lib.ListN.{length};
 ghost use Rattle.definitions.specs.Bytes.{Text};
 ghost use Rattle.definitions.specs.Sizes.{sameName, typedElement, elementSize};
-ghost use Rattle.definitions.specs.Refusals.{notWhole, raggedSize, raggedArray, isOptional, raggedEnum, raggedDesc, raggedField, ragged, isFrame};
+ghost use Rattle.definitions.specs.Refusals.{notWhole, raggedSize, raggedArray, isOptional, raggedEnum, raggedDesc, raggedField, ragged, sameSize, isFrame};
 ghost use Rattle.definitions.specs.declared.Size.{Size};
-ghost use Rattle.tables.specs.Tables.{Tables, tablesOf, rowsOf, fieldHere, fieldsOf, rowsFrom};
+ghost use Rattle.tables.specs.Tables.{Tables, tablesOf, rowsOf, fieldHere, fieldsOf, rowIn, rowsFrom};
 ghost use Rattle.schema.specs.Entries.{entriesFrom};
-ghost use Rattle.sizes.specs.Answers.{raggedFields, targetFrom, behindSchema, Checked};
+ghost use Rattle.sizes.specs.Answers.{raggedFields, misstatedRow, misstatedRows, targetFrom, behindWhole, behindSchema, Checked};
 
 // ---- `element_size`
 
@@ -245,6 +246,54 @@ pub fn ragged(rec: &[u8], rows: &[u64], values: &[u64], fields: &[u16], n: usize
     false
 }
 
+// ---- 17: a `bits` line differs from `decl_size` (document 02, Card 10)
+
+fn same_size(a: Size, b: Size) -> bool
+    ensures { λ r. ⌜ r ≡ sameSize a b ⌝ }
+{
+    match a {
+        Size::Static(n) => match b {
+            Size::Static(m) => n == m,
+            Size::Dynamic => false,
+            Size::Unknown => false,
+        },
+        Size::Dynamic => match b {
+            Size::Static(_) => false,
+            Size::Dynamic => true,
+            Size::Unknown => false,
+        },
+        Size::Unknown => match b {
+            Size::Static(_) => false,
+            Size::Dynamic => false,
+            Size::Unknown => true,
+        },
+    }
+}
+
+// The declaration with the index i.
+fn misstated_here(rows: &[u64], i: usize) -> bool
+    ensures { λ r. ⌜ r ≡ misstatedRow (rowIn (now (rows .entry)) i) ⌝ }
+{
+    match tables::bits_here(rows, i) {
+        MaybeSize::None => false,
+        MaybeSize::Some(stated) => !same_size(stated, rows::own_size(rows, i)),
+    }
+}
+
+// One of n declarations.
+pub fn misstated(rows: &[u64], n: usize) -> bool
+    ensures { λ r. ⌜ r ≡ misstatedRows (rowsFrom (now (rows .entry)) 0 n) ⌝ }
+{
+    let mut i = 0;
+    while i < n {
+        if misstated_here(rows, i) {
+            return true;
+        }
+        i += 1;
+    }
+    false
+}
+
 // ---- 9: the target is no packet or struct; no field is looked at, so any tables of fields will do
 
 fn is_target(rec: &[u8], name: Part, d: Decl) -> bool
@@ -271,12 +320,27 @@ pub fn target(rec: &[u8], rows: &[u64], n: usize, name: Part) -> Found
     Found::Nothing
 }
 
-// ---- 7 to 9, each over the whole record before the next
+// ---- 7, 8, 17 and 9, each over the whole record before the next
 
 // The target's index, or the first refusal.
 pub enum Sizing {
     Target(usize),
     Refuse(Refusal),
+}
+
+// 17 and 9.
+fn behind_whole(rec: &[u8], head: Head, rows: &[u64], n: usize) -> Sizing
+    ensures { λ r. let s : Text = now (rec .entry) in
+        ⌜ ((values fields : List ℕ) → r ≡ behindWhole s head (entriesFrom s (now (rows .entry)) values fields 0 n)) ⌝ }
+{
+    if misstated(rows, n) {
+        return Sizing::Refuse(Refusal::Misstated);
+    }
+    let name = head.target;
+    let Found::At(i) = target(rec, rows, n, name) else {
+        return Sizing::Refuse(Refusal::NoTarget);
+    };
+    Sizing::Target(i)
 }
 
 fn behind_schema(
@@ -293,11 +357,7 @@ fn behind_schema(
     if ragged(rec, rows, values, fields, n) {
         return Sizing::Refuse(Refusal::NotWholeBytes);
     }
-    let name = head.target;
-    let Found::At(i) = target(rec, rows, n, name) else {
-        return Sizing::Refuse(Refusal::NoTarget);
-    };
-    Sizing::Target(i)
+    behind_whole(rec, head, rows, n)
 }
 
 // The sizes of the n declarations are put into the rows; where 7 is not met the tables give all of `Schema`.
@@ -309,7 +369,7 @@ pub fn check_sizes(
     fields: &[u16],
     n: usize,
 ) -> Sizing
-    requires { ⌜ n * 11 ≤ length (now rows) ⌝ }
+    requires { ⌜ n * 13 ≤ length (now rows) ⌝ }
     ensures { λ r. ⌜ Checked (now (rec .entry)) head (now (rows .entry)) (now (values .entry)) (now (fields .entry)) n (now (rows .exit)) r ⌝ }
 {
     if schema::schema(rec, rows, values, fields, n) {

@@ -2,7 +2,7 @@
 -- Assumes nothing.
 use Prim.Native.Nat.{ℕ, zero, suc, _+_, _*_, _/_, _≤_, _<_}
 use mathlib.Core.Bool.{Bool, true, false}
-use mathlib.Core.List.{List, [], _∷_, _++_}
+use mathlib.Core.List.{List, [], _∷_, _++_, append-assoc}
 use mathlib.Core.Logic.{_≢_}
 use mathlib.Core.Path.{_≡_, refl, sym, ap, _∙_}
 use native.Mathlib.Nat.{add-zero, zero-add}
@@ -18,14 +18,16 @@ use Rattle.definitions.specs.declared.Modifier.{Modifier}
 use Rattle.definitions.specs.declared.FieldDesc.{FieldDesc}
 use Rattle.definitions.specs.declared.Cond.{Cond}
 use Rattle.definitions.specs.declared.Field.{Field}
+use Rattle.definitions.specs.declared.Size.{Size}
+use Rattle.definitions.specs.declared.MaybeSize.{MaybeSize}
 use Rattle.definitions.specs.declared.DeclDesc.{DeclDesc}
 use Rattle.definitions.specs.declared.Decl.{Decl}
 use Rattle.tables.specs.Words.{bitWord, partWords, maybeWords, maybePartWords, modifierWords, descWords, condWords, fieldWords}
-use Rattle.tables.specs.Words.{declDescWords, declWords}
-use Rattle.tables.specs.Words.{bitOf, maybeOf, maybePartOf, modifierOf, plainOf, descOf, condOf, fieldOf, declDescOf, declOf}
+use Rattle.tables.specs.Words.{declDescWords, statedWords, declWords}
+use Rattle.tables.specs.Words.{bitOf, maybeOf, maybePartOf, modifierOf, plainOf, descOf, condOf, fieldOf, declDescOf, statedOf, declOf}
 use Rattle.tables.specs.Tables.{fieldHere, declHere, countHere}
 use Rattle.tables.proofs.Entries.{field-same, decl-same}
-use Rattle.tables.proofs.Writing.{desc-length, field-length, decl-desc-length, row-length}
+use Rattle.tables.proofs.Writing.{desc-length, field-length, decl-desc-length, stated-length, row-length}
 
 -- ---- the numbers of a table in which some were written
 
@@ -187,9 +189,34 @@ bit-again : (b : Bool) → bitOf (bitWord b) ≡ b
 bit-again true = refl
 bit-again false = refl
 
-module _ (key : ℕ) (id : Part) (count : ℕ) where
+stated-front : (b : MaybeSize) (rest : List ℕ) → statedOf (getD (statedWords b ++ rest) 0 0) (getD (statedWords b ++ rest) 1 0) ≡ b
+unfolding statedOf
+stated-front MaybeSize.None rest = refl
+stated-front (MaybeSize.Some (Size.Static bits)) rest = refl
+stated-front (MaybeSize.Some Size.Dynamic) rest = refl
+stated-front (MaybeSize.Some Size.Unknown) rest = refl
+
+-- the numbers of a row behind those of its name
+module _ (desc : DeclDesc) (bits : MaybeSize) (count : ℕ) where
+  abbrev end : List ℕ
+  end = (declDescWords desc ++ statedWords bits) ++ (count ∷ [])
+
+  behind-desc : (k : ℕ) → getD end (4 + k) 0 ≡ getD (statedWords bits ++ (count ∷ [])) k 0
+  behind-desc k =
+      ap (λ (l : List ℕ). getD l (4 + k) 0) (append-assoc (declDescWords desc) (statedWords bits) (count ∷ []))
+      ∙ ap (λ (n : ℕ). getD (declDescWords desc ++ (statedWords bits ++ (count ∷ []))) (n + k) 0) (sym (decl-desc-length desc))
+      ∙ getD-append-add (declDescWords desc) (statedWords bits ++ (count ∷ [])) k 0
+
+  stated-again : statedOf (getD end 4 0) (getD end 5 0) ≡ bits
+  stated-again = rw (behind-desc 0, behind-desc 1) (stated-front bits (count ∷ []))
+
+  count-of : getD end 6 0 ≡ count
+  count-of =
+      behind-desc 2 ∙ ap (λ (n : ℕ). getD (statedWords bits ++ (count ∷ [])) n 0) (sym (stated-length bits)) ∙ getD-append-seam (statedWords bits) count [] 0
+
+module _ (key : ℕ) (id : Part) (rest : List ℕ) where
   abbrev row : DeclDesc → List ℕ
-  row desc = key ∷ (partWords id ++ (declDescWords desc ++ (count ∷ [])))
+  row desc = key ∷ (partWords id ++ (declDescWords desc ++ rest))
 
   abbrev Again : DeclDesc → Type 0
   Again desc = declDescOf (getD (row desc) 3 0) (getD (row desc) 4 0) (getD (row desc) 5 0) (getD (row desc) 6 0) ≡ desc
@@ -214,47 +241,49 @@ module _ (key : ℕ) (id : Part) (count : ℕ) where
   decl-desc-again (DeclDesc.Packet parent) = packet-again parent (maybe-part-three parent) (maybe-part-again parent)
   decl-desc-again (DeclDesc.Struct parent) = struct-again parent (maybe-part-three parent) (maybe-part-again parent)
 
-  count-of : (desc : DeclDesc) → getD (row desc) 7 0 ≡ count
-  count-of desc =
-      ap (λ (n : ℕ). getD (declDescWords desc ++ (count ∷ [])) n 0) (sym (decl-desc-length desc)) ∙ getD-append-seam (declDescWords desc) count [] 0
-
 row-again : (d : Decl) (count : ℕ) → declOf (declWords d ++ (count ∷ [])) 0 ≡ d
-row-again d count = rw (decl-desc-again (d .key) (d .id) count (d .desc))
+row-again d count = rw (stated-again (d .desc) (d .bits) count, desc)
+  where
+    desc : declDescOf (getD (end (d .desc) (d .bits) count) 0 0) (getD (end (d .desc) (d .bits) count) 1 0)
+        (getD (end (d .desc) (d .bits) count) 2 0) (getD (end (d .desc) (d .bits) count) 3 0) ≡ d .desc
+    desc =
+        rw (append-assoc (declDescWords (d .desc)) (statedWords (d .bits)) (count ∷ []))
+        (decl-desc-again (d .key) (d .id) (statedWords (d .bits) ++ (count ∷ [])) (d .desc))
 
 module _ (rows : List ℕ) (i : ℕ) (d : Decl) (count : ℕ) where
   abbrev words : List ℕ
   words = declWords d ++ (count ∷ [])
 
   abbrev written : List ℕ
-  written = sets rows (i * 11) words
+  written = sets rows (i * 13) words
 
-  pub decl-again : i * 11 + 8 ≤ length rows → declHere (sets rows (i * 11) (declWords d ++ (count ∷ []))) i ≡ d
+  pub decl-again : i * 13 + 10 ≤ length rows → declHere (sets rows (i * 13) (declWords d ++ (count ∷ []))) i ≡ d
   unfolding declHere
   decl-again h =
-      decl-same written words (i * 11) 0
-      (λ k m. getD-written rows (i * 11) words k (omega (arith, row-length d count)) (omega (arith, row-length d count))
+      decl-same written words (i * 13) 0
+      (λ k m. getD-written rows (i * 13) words k (omega (arith, row-length d count)) (omega (arith, row-length d count))
       ∙ ap (λ (j : ℕ). getD words j 0) (sym (zero-add k)))
       ∙ row-again d count
 
-  pub count-again : i * 11 + 8 ≤ length rows → countHere (sets rows (i * 11) (declWords d ++ (count ∷ []))) i ≡ count
+  pub count-again : i * 13 + 10 ≤ length rows → countHere (sets rows (i * 13) (declWords d ++ (count ∷ []))) i ≡ count
   count-again h =
-      getD-written rows (i * 11) words 7 (omega (arith, row-length d count)) (omega (arith, row-length d count)) ∙ count-of (d .key) (d .id) count (d .desc)
+      getD-written rows (i * 13) words 9 (omega (arith, row-length d count)) (omega (arith, row-length d count)) ∙ count-of (d .desc) (d .bits) count
 
   -- every other number of the rows stays
-  pub number-kept : (j k : ℕ) → k < 11 → j ≢ i → getD (sets rows (i * 11) (declWords d ++ (count ∷ []))) (j * 11 + k) 0 ≡ getD rows (j * 11 + k) 0
-  number-kept j k b n = by (ltb (j * 11 + k) (i * 11)) refl
+  pub number-kept : (j k : ℕ) → k < 13 → j ≢ i → getD (sets rows (i * 13) (declWords d ++ (count ∷ []))) (j * 13 + k) 0 ≡ getD rows (j * 13 + k) 0
+  number-kept j k b n = by (ltb (j * 13 + k) (i * 13)) refl
     where
-      by : (t : Bool) → ltb (j * 11 + k) (i * 11) ≡ t → getD written (j * 11 + k) 0 ≡ getD rows (j * 11 + k) 0
-      by true e = getD-before rows (i * 11) words (j * 11 + k) (ltb-true (j * 11 + k) (i * 11) e)
+      by : (t : Bool) → ltb (j * 13 + k) (i * 13) ≡ t → getD written (j * 13 + k) 0 ≡ getD rows (j * 13 + k) 0
+      by true e = getD-before rows (i * 13) words (j * 13 + k) (ltb-true (j * 13 + k) (i * 13) e)
       by false e =
-          getD-behind rows (i * 11) words (j * 11 + k) (apart (ltb-false (j * 11 + k) (i * 11) e))
+          getD-behind rows (i * 13) words (j * 13 + k) (apart (ltb-false (j * 13 + k) (i * 13) e))
         where
-          apart : i * 11 ≤ j * 11 + k → i * 11 + length words ≤ j * 11 + k
+          apart : i * 13 ≤ j * 13 + k → i * 13 + length words ≤ j * 13 + k
           apart h = omega (arith, row-length d count, n)
 
-  pub decl-kept : (j : ℕ) → j ≢ i → declHere (sets rows (i * 11) (declWords d ++ (count ∷ []))) j ≡ declHere rows j
+  pub decl-kept : (j : ℕ) → j ≢ i → declHere (sets rows (i * 13) (declWords d ++ (count ∷ []))) j ≡ declHere rows j
   unfolding declHere
-  decl-kept j n = decl-same written rows (j * 11) (j * 11) (λ k m. number-kept j k (omega arith) n)
+  decl-kept j n = decl-same written rows (j * 13) (j * 13) (λ k m. number-kept j k (omega arith) n)
 
-  pub count-kept : (j : ℕ) → j ≢ i → countHere (sets rows (i * 11) (declWords d ++ (count ∷ []))) j ≡ countHere rows j
-  count-kept j n = number-kept j 7 (omega arith) n
+  pub count-kept : (j : ℕ) → j ≢ i → countHere (sets rows (i * 13) (declWords d ++ (count ∷ []))) j ≡ countHere rows j
+  count-kept j n = number-kept j 9 (omega arith) n

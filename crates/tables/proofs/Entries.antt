@@ -1,4 +1,4 @@
--- What is read back depends on the numbers of an entry alone: 17 for a field, 7 for a declaration.
+-- What is read back depends on the numbers of an entry alone: 17 for a field, 9 for a declaration.
 -- Assumes nothing.
 use Prim.Native.Nat.{ℕ, _+_, _*_, _/_, _≤_, _<_}
 use mathlib.Core.List.{List, [], _∷_}
@@ -9,9 +9,10 @@ use lib.ListN.{length, getD, List·getD-eq-default}
 use Rattle.definitions.specs.Record.{partOf}
 use Rattle.definitions.specs.declared.Cond.{Cond}
 use Rattle.definitions.specs.declared.Field.{Field}
+use Rattle.definitions.specs.declared.MaybeSize.{MaybeSize}
 use Rattle.definitions.specs.declared.Decl.{Decl}
 use Rattle.definitions.specs.declared.Part.{Part}
-use Rattle.tables.specs.Words.{descOf, condOf, fieldOf, declOf}
+use Rattle.tables.specs.Words.{descOf, condOf, fieldOf, statedOf, declOf}
 use Rattle.tables.specs.Tables.{fieldHere, declHere}
 
 -- the 17 numbers of an entry
@@ -51,7 +52,7 @@ module _ (t u : List ℕ) (a b : ℕ) where
   field-same e =
       of-entry t a ∙ ap (λ (l : List ℕ). fieldOf l 0) (entry-same (λ (k : ℕ). getD t (a + k) 0) (λ (k : ℕ). getD u (b + k) 0) e) ∙ sym (of-entry u b)
 
-  pub decl-same : ((k : ℕ) → k < 7 → getD t (a + k) 0 ≡ getD u (b + k) 0) → declOf t a ≡ declOf u b
+  pub decl-same : ((k : ℕ) → k < 9 → getD t (a + k) 0 ≡ getD u (b + k) 0) → declOf t a ≡ declOf u b
   decl-same e =
       rw (
         sym (ap (λ (x : ℕ). getD t x 0) (add-zero a)) ∙ e 0 (omega arith) ∙ ap (λ (x : ℕ). getD u x 0) (add-zero b),
@@ -61,6 +62,8 @@ module _ (t u : List ℕ) (a b : ℕ) where
         e 4 (omega arith),
         e 5 (omega arith),
         e 6 (omega arith),
+        e 7 (omega arith),
+        e 8 (omega arith),
       )
 
 -- ---- outside the table every number is 0
@@ -83,11 +86,11 @@ module _ (t : List ℕ) where
   unfolding fieldHere
   field-there at e = e
 
-  pub decl-past : (i : ℕ) → length t / 11 < i → {r : Decl} → r ≡ declOf t (length t) → r ≡ declHere t i
+  pub decl-past : (i : ℕ) → length t / 13 < i → {r : Decl} → r ≡ declOf t (length t) → r ≡ declHere t i
   unfolding declHere
-  decl-past i h e = e ∙ decl-out (i * 11) (omega arith)
+  decl-past i h e = e ∙ decl-out (i * 13) (omega arith)
 
-  pub decl-there : (i : ℕ) {r : Decl} → r ≡ declOf t (i * 11) → r ≡ declHere t i
+  pub decl-there : (i : ℕ) {r : Decl} → r ≡ declOf t (i * 13) → r ≡ declHere t i
   unfolding declHere
   decl-there i e = e
 
@@ -99,15 +102,22 @@ module _ (t : List ℕ) where
   unfolding fieldHere
   cond-there at e = e
 
-  pub id-past : (i : ℕ) → length t / 11 < i → {r : Part} → r ≡ partOf (getD t (length t + 1) 0) (getD t (length t + 2) 0) → r ≡ declHere t i .id
+  pub id-past : (i : ℕ) → length t / 13 < i → {r : Part} → r ≡ partOf (getD t (length t + 1) 0) (getD t (length t + 2) 0) → r ≡ declHere t i .id
   id-past i h e = e ∙ ap (λ (d : Decl). d .id) (decl-past i h refl)
 
-  pub id-there : (i : ℕ) {r : Part} → r ≡ partOf (getD t (i * 11 + 1) 0) (getD t (i * 11 + 2) 0) → r ≡ declHere t i .id
+  pub id-there : (i : ℕ) {r : Part} → r ≡ partOf (getD t (i * 13 + 1) 0) (getD t (i * 13 + 2) 0) → r ≡ declHere t i .id
   unfolding declHere
   id-there i e = e
+
+  pub bits-past : (i : ℕ) → length t / 13 < i → {r : MaybeSize} → r ≡ statedOf (getD t (length t + 7) 0) (getD t (length t + 8) 0) → r ≡ declHere t i .bits
+  bits-past i h e = e ∙ ap (λ (d : Decl). d .bits) (decl-past i h refl)
+
+  pub bits-there : (i : ℕ) {r : MaybeSize} → r ≡ statedOf (getD t (i * 13 + 7) 0) (getD t (i * 13 + 8) 0) → r ≡ declHere t i .bits
+  unfolding declHere
+  bits-there i e = e
 
   pub kind-past : (at : ℕ) → length t / 17 < at / 16 → 0 ≡ getD t (at / 16 * 17 + 1) 0
   kind-past at h = sym (List·getD-eq-default t 0 (omega arith))
 
-  pub count-past : (i : ℕ) → length t / 11 < i → 0 ≡ getD t (i * 11 + 7) 0
+  pub count-past : (i : ℕ) → length t / 13 < i → 0 ≡ getD t (i * 13 + 9) 0
   count-past i h = sym (List·getD-eq-default t 0 (omega arith))

@@ -15,9 +15,11 @@ use Rattle.definitions.specs.declared.Modifier.{Modifier}
 use Rattle.definitions.specs.declared.FieldDesc.{FieldDesc}
 use Rattle.definitions.specs.declared.Cond.{Cond}
 use Rattle.definitions.specs.declared.Field.{Field}
+use Rattle.definitions.specs.declared.Size.{Size}
+use Rattle.definitions.specs.declared.MaybeSize.{MaybeSize}
 use Rattle.definitions.specs.declared.DeclDesc.{DeclDesc}
 use Rattle.definitions.specs.declared.Decl.{Decl}
-use Rattle.tables.specs.Words.{bitOf, maybeOf, maybePartOf, modifierOf, plainOf, descOf, condOf, fieldOf, declDescOf, declOf}
+use Rattle.tables.specs.Words.{bitOf, maybeOf, maybePartOf, modifierOf, plainOf, descOf, condOf, fieldOf, declDescOf, statedOf, declOf}
 
 -- ---- a number of the table
 
@@ -54,6 +56,22 @@ module _ (tag n : ℕ) where
   unfolding modifierOf
   modifier-minus h k = rw (modifierOf, ne-eqb tag 0 h, ne-eqb tag 1 k)
 
+  pub stated-none : tag ≡ 0 → MaybeSize.None ≡ statedOf tag n
+  unfolding statedOf
+  stated-none h = rw (statedOf, eq-eqb tag 0 h)
+
+  pub stated-static : (tag ≡ 0 → ⊥) → tag ≡ 1 → MaybeSize.Some (Size.Static n) ≡ statedOf tag n
+  unfolding statedOf
+  stated-static h k = rw (statedOf, ne-eqb tag 0 h, eq-eqb tag 1 k)
+
+  pub stated-dynamic : (tag ≡ 0 → ⊥) → (tag ≡ 1 → ⊥) → tag ≡ 2 → MaybeSize.Some Size.Dynamic ≡ statedOf tag n
+  unfolding statedOf
+  stated-dynamic h k l = rw (statedOf, ne-eqb tag 0 h, ne-eqb tag 1 k, eq-eqb tag 2 l)
+
+  pub stated-unknown : (tag ≡ 0 → ⊥) → (tag ≡ 1 → ⊥) → (tag ≡ 2 → ⊥) → MaybeSize.Some Size.Unknown ≡ statedOf tag n
+  unfolding statedOf
+  stated-unknown h k l = rw (statedOf, ne-eqb tag 0 h, ne-eqb tag 1 k, ne-eqb tag 2 l)
+
 module _ (tag from to : ℕ) where
   pub part-none : tag ≡ 0 → MaybePart.None ≡ maybePartOf tag from to
   unfolding maybePartOf
@@ -69,6 +87,9 @@ module _ {a b x y : ℕ} (e : a ≡ x) (f : b ≡ y) where
 
   pub modifier-is : {r : Modifier} → r ≡ modifierOf a b → r ≡ modifierOf x y
   modifier-is h = h ∙ ap (λ (n : ℕ). modifierOf n b) e ∙ ap (modifierOf x) f
+
+  pub stated-is : {r : MaybeSize} → r ≡ statedOf a b → r ≡ statedOf x y
+  stated-is h = h ∙ ap (λ (n : ℕ). statedOf n b) e ∙ ap (statedOf x) f
 
   module _ {c z : ℕ} (g : c ≡ z) where
     pub maybe-part-is : {r : MaybePart} → r ≡ maybePartOf a b c → r ≡ maybePartOf x y z
@@ -221,7 +242,8 @@ module _ (t : List ℕ) (at : ℕ) where
       → _≡_ {A = Field} (record { key = key; desc = desc; cond = cond }) (fieldOf t at)
   field-is ek ed ec = rw (ek, ed, ec)
 
-  pub decl-is : {key n : ℕ} {id : Part} {desc : DeclDesc} → n ≡ getD t at 0 → key ≡ n → id ≡ partOf (getD t (at + 1) 0) (getD t (at + 2) 0)
+  pub decl-is : {key n : ℕ} {id : Part} {bits : MaybeSize} {desc : DeclDesc} → n ≡ getD t at 0 → key ≡ n → id ≡ partOf (getD t (at + 1) 0) (getD t (at + 2) 0)
+      → bits ≡ statedOf (getD t (at + 7) 0) (getD t (at + 8) 0)
       → desc ≡ declDescOf (getD t (at + 3) 0) (getD t (at + 4) 0) (getD t (at + 5) 0) (getD t (at + 6) 0)
-      → _≡_ {A = Decl} (record { key = key; id = id; desc = desc }) (declOf t at)
-  decl-is en ek ei ed = rw (ek, en, ei, ed)
+      → _≡_ {A = Decl} (record { key = key; id = id; bits = bits; desc = desc }) (declOf t at)
+  decl-is en ek ei eb ed = rw (ek, en, ei, eb, ed)

@@ -16,10 +16,12 @@ use Rattle.definitions.specs.declared.Modifier.{Modifier}
 use Rattle.definitions.specs.declared.FieldDesc.{FieldDesc}
 use Rattle.definitions.specs.declared.Cond.{Cond}
 use Rattle.definitions.specs.declared.Field.{Field}
+use Rattle.definitions.specs.declared.Size.{Size}
+use Rattle.definitions.specs.declared.MaybeSize.{MaybeSize}
 use Rattle.definitions.specs.declared.DeclDesc.{DeclDesc}
 use Rattle.definitions.specs.declared.Decl.{Decl}
 use Rattle.tables.specs.Words.{partWords, maybeWords, maybePartWords, modifierWords, plainWords, typedWords, descWords, condWords}
-use Rattle.tables.specs.Words.{shapeWords, fieldWords, bitWord, declDescWords, declWords}
+use Rattle.tables.specs.Words.{shapeWords, fieldWords, bitWord, declDescWords, statedWords, declWords}
 
 -- ---- the loop: what is left of the words, written from here on, comes to the whole
 
@@ -86,6 +88,13 @@ module _ (l : List ℕ) (i : ℕ) {l₁ : List ℕ} where
 
   pub as-cond : {d c : Cond} → d ≡ c → l₁ ≡ sets l i (condWords c) → l₁ ≡ sets l i (condWords d)
   as-cond e h = h ∙ sym (ap (λ (x : Cond). sets l i (condWords x)) e)
+
+  pub as-stated : {m : MaybeSize} {x y : Size} → m ≡ MaybeSize.Some x → x ≡ y → l₁ ≡ sets l i (statedWords (MaybeSize.Some y))
+      → l₁ ≡ sets l i (statedWords m)
+  as-stated e f h = h ∙ sym (ap (λ (z : MaybeSize). sets l i (statedWords z)) (e ∙ ap (λ (z : Size). MaybeSize.Some z) f))
+
+  pub as-none : {m : MaybeSize} → m ≡ MaybeSize.None → l₁ ≡ sets l i (0 ∷ 0 ∷ []) → l₁ ≡ sets l i (statedWords m)
+  as-none e h = h ∙ sym (ap (λ (x : MaybeSize). sets l i (statedWords x)) e)
 
   pub as-decl : {d c : DeclDesc} → d ≡ c → l₁ ≡ sets l i (declDescWords c) → l₁ ≡ sets l i (declDescWords d)
   as-decl e h = h ∙ sym (ap (λ (x : DeclDesc). sets l i (declDescWords x)) e)
@@ -158,8 +167,14 @@ decl-desc-length (DeclDesc.Enum width isOpen isComplete) = refl
 decl-desc-length (DeclDesc.Packet parent) = ap suc (maybe-part-length parent)
 decl-desc-length (DeclDesc.Struct parent) = ap suc (maybe-part-length parent)
 
-pub row-length : (d : Decl) (count : ℕ) → length (declWords d ++ (count ∷ [])) ≡ 8
-row-length d count = simp length-append (omega (arith, decl-desc-length (d .desc)))
+pub stated-length : (b : MaybeSize) → length (statedWords b) ≡ 2
+stated-length MaybeSize.None = refl
+stated-length (MaybeSize.Some (Size.Static bits)) = refl
+stated-length (MaybeSize.Some Size.Dynamic) = refl
+stated-length (MaybeSize.Some Size.Unknown) = refl
+
+pub row-length : (d : Decl) (count : ℕ) → length (declWords d ++ (count ∷ [])) ≡ 10
+row-length d count = simp length-append (omega (arith, decl-desc-length (d .desc), stated-length (d .bits)))
 
 -- ---- things of more than one piece
 
@@ -198,16 +213,21 @@ module _ (l : List ℕ) (i : ℕ) where
       then l i (i + 1) (1 ∷ []) (maybeWords width ++ (0 ∷ [])) refl e₁
       (then l₁ (i + 1) (i + 3) (maybeWords width) (0 ∷ []) (omega (arith, maybe-length width)) e₂ e₃)
 
+  pub behind-put : (desc : DeclDesc) (bits : MaybeSize) {l₁ l₂ : List ℕ} → l₁ ≡ sets l i (declDescWords desc) → l₂ ≡ sets l₁ (i + 4) (statedWords bits)
+      → l₂ ≡ sets l i (declDescWords desc ++ statedWords bits)
+  behind-put desc bits e f = then l i (i + 4) (declDescWords desc) (statedWords bits) (omega (arith, decl-desc-length desc)) e f
+
   pub decl-put : (d : Decl) (count : ℕ) {key start end n : ℕ} → key ≡ d .key → start ≡ d .id .start → end ≡ d .id .end → n ≡ count
-      → {l₁ l₂ l₃ : List ℕ} → l₁ ≡ sets l i (key ∷ start ∷ end ∷ []) → l₂ ≡ sets l₁ (i + 3) (declDescWords (d .desc)) → l₃ ≡ set l₂ (i + 7) n
-      → l₃ ≡ sets l i (declWords d ++ (count ∷ []))
+      → {l₁ l₂ l₃ : List ℕ} → l₁ ≡ sets l i (key ∷ start ∷ end ∷ []) → l₂ ≡ sets l₁ (i + 3) (declDescWords (d .desc) ++ statedWords (d .bits))
+      → l₃ ≡ set l₂ (i + 9) n → l₃ ≡ sets l i (declWords d ++ (count ∷ []))
   decl-put d count ek es ee en {l₁} {l₂} {l₃} e₁ e₂ e₃ =
-      then l i (i + 3) (d .key ∷ partWords (d .id)) (declDescWords (d .desc) ++ (count ∷ [])) refl (rw (ek, es, ee) at e₁)
-      (then l₁ (i + 3) (i + 7) (declDescWords (d .desc)) (count ∷ []) (omega (arith, decl-desc-length (d .desc))) e₂ (rw en at e₃))
+      then l i (i + 3) (d .key ∷ partWords (d .id)) ((declDescWords (d .desc) ++ statedWords (d .bits)) ++ (count ∷ [])) refl (rw (ek, es, ee) at e₁)
+      (then l₁ (i + 3) (i + 9) (declDescWords (d .desc) ++ statedWords (d .bits)) (count ∷ [])
+      (simp length-append (omega (arith, decl-desc-length (d .desc), stated-length (d .bits)))) e₂ (rw en at e₃))
 
 module _ (l : List ℕ) where
   pub field-nowhere : (at : ℕ) (vs : List ℕ) → length l / 17 < at / 16 → l ≡ sets l (at / 16 * 17) vs
   field-nowhere at vs h = sets-out l (at / 16 * 17) vs (omega arith)
 
-  pub decl-nowhere : (i : ℕ) (vs : List ℕ) → length l / 11 < i → l ≡ sets l (i * 11) vs
-  decl-nowhere i vs h = sets-out l (i * 11) vs (omega arith)
+  pub decl-nowhere : (i : ℕ) (vs : List ℕ) → length l / 13 < i → l ≡ sets l (i * 13) vs
+  decl-nowhere i vs h = sets-out l (i * 13) vs (omega arith)

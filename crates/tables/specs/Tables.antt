@@ -1,4 +1,4 @@
--- What the tables of a record give back, by total functions, for any tables: `rows` with 11 numbers for each declaration, `fields` with 64 places for each,
+-- What the tables of a record give back, by total functions, for any tables: `rows` with 13 numbers for each declaration, `fields` with 64 places for each,
 -- and `values` with 17 numbers for each field, at 17 * (its place / 16), since a field has 16 bytes or more. No part of the answer.
 -- Assumes nothing.
 use mathlib.Core.Bool.{true, false}
@@ -26,13 +26,13 @@ unfoldable pub fieldsFrom : List ℕ → List ℕ → ℕ → ℕ → List Field
 fieldsFrom values fields j zero = []
 fieldsFrom values fields j (suc n) = fieldHere values (getD fields j 0) ∷ fieldsFrom values fields (j + 1) n
 
--- ---- declarations: 11 numbers a row, those of the declaration, the number of its fields, and its three sizes
+-- ---- declarations: 13 numbers a row, those of the declaration, the number of its fields, and its three sizes
 
 unfoldable pub declHere : List ℕ → ℕ → Decl
-declHere rows i = declOf rows (i * 11)
+declHere rows i = declOf rows (i * 13)
 
 abbrev pub countHere : List ℕ → ℕ → ℕ
-countHere rows i = getD rows (i * 11 + 7) 0
+countHere rows i = getD rows (i * 13 + 9) 0
 
 -- the declaration with the index i: count i of the fields' places from 64 i on
 abbrev pub declarationIn : List ℕ → List ℕ → List ℕ → ℕ → Declaration
@@ -49,9 +49,9 @@ abbrev pub rowIn : List ℕ → ℕ → Row
 rowIn rows i =
     record {
       decl = declHere rows i;
-      declSize = decode (getD rows (i * 11 + 8) 0);
-      parentSize = decode (getD rows (i * 11 + 9) 0);
-      payloadSize = decode (getD rows (i * 11 + 10) 0);
+      declSize = decode (getD rows (i * 13 + 10) 0);
+      parentSize = decode (getD rows (i * 13 + 11) 0);
+      payloadSize = decode (getD rows (i * 13 + 12) 0);
     }
 
 -- m of them, from i on
@@ -61,7 +61,7 @@ rowsFrom rows i (suc m) = rowIn rows i ∷ rowsFrom rows (i + 1) m
 
 -- its three sizes written
 abbrev pub withSizes : List ℕ → ℕ → ℕ → ℕ → ℕ → List ℕ
-withSizes rows i own parent payload = set (set (set rows (i * 11 + 8) own) (i * 11 + 9) parent) (i * 11 + 10) payload
+withSizes rows i own parent payload = set (set (set rows (i * 13 + 10) own) (i * 13 + 11) parent) (i * 13 + 12) payload
 
 -- ---- the look-up of a declaration by its name
 

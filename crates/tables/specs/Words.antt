@@ -13,6 +13,8 @@ use Rattle.definitions.specs.declared.Modifier.{Modifier}
 use Rattle.definitions.specs.declared.FieldDesc.{FieldDesc}
 use Rattle.definitions.specs.declared.Cond.{Cond}
 use Rattle.definitions.specs.declared.Field.{Field}
+use Rattle.definitions.specs.declared.Size.{Size}
+use Rattle.definitions.specs.declared.MaybeSize.{MaybeSize}
 use Rattle.definitions.specs.declared.DeclDesc.{DeclDesc}
 use Rattle.definitions.specs.declared.Decl.{Decl}
 
@@ -154,7 +156,22 @@ module _ (t : List ℕ) (at : ℕ) where
   abbrev pub fieldOf : Field
   fieldOf = record { key = word 0; desc = descOf; cond = condOf }
 
--- ---- a declaration: 7 numbers. Its key, its name, its kind and three more
+-- ---- a declaration: 9 numbers. Its key, its name, its kind and three more, and two of its `bits` line
+
+abbrev pub statedWords : MaybeSize → List ℕ
+statedWords MaybeSize.None = 0 ∷ 0 ∷ []
+statedWords (MaybeSize.Some (Size.Static bits)) = 1 ∷ bits ∷ []
+statedWords (MaybeSize.Some Size.Dynamic) = 2 ∷ 0 ∷ []
+statedWords (MaybeSize.Some Size.Unknown) = 3 ∷ 0 ∷ []
+
+unfoldable pub statedOf : ℕ → ℕ → MaybeSize
+statedOf tag n = elim (eqb tag 0) [
+  | true ↦ MaybeSize.None
+  | false ↦ elim (eqb tag 1) [
+    | true ↦ MaybeSize.Some (Size.Static n)
+    | false ↦ elim (eqb tag 2) [ true ↦ MaybeSize.Some Size.Dynamic | false ↦ MaybeSize.Some Size.Unknown ]
+  ]
+]
 
 abbrev pub declDescWords : DeclDesc → List ℕ
 declDescWords (DeclDesc.Checksum width) = 0 ∷ width ∷ 0 ∷ 0 ∷ []
@@ -164,7 +181,7 @@ declDescWords (DeclDesc.Packet parent) = 3 ∷ maybePartWords parent
 declDescWords (DeclDesc.Struct parent) = 4 ∷ maybePartWords parent
 
 abbrev pub declWords : Decl → List ℕ
-declWords d = d .key ∷ (partWords (d .id) ++ declDescWords (d .desc))
+declWords d = d .key ∷ (partWords (d .id) ++ (declDescWords (d .desc) ++ statedWords (d .bits)))
 
 unfoldable pub declDescOf : ℕ → ℕ → ℕ → ℕ → DeclDesc
 declDescOf kind a b c = elim (eqb kind 0) [
@@ -183,5 +200,6 @@ declOf t at =
     record {
       key = getD t at 0;
       id = partOf (getD t (at + 1) 0) (getD t (at + 2) 0);
+      bits = statedOf (getD t (at + 7) 0) (getD t (at + 8) 0);
       desc = declDescOf (getD t (at + 3) 0) (getD t (at + 4) 0) (getD t (at + 5) 0) (getD t (at + 6) 0);
     }

@@ -1,4 +1,4 @@
-// The record as values: what the reader read, as numbers of two tables, so that no text is read twice. `rows` has 11 numbers for each declaration, `values`
+// The record as values: what the reader read, as numbers of two tables, so that no text is read twice. `rows` has 13 numbers for each declaration, `values`
 // 17 for each field at 17 * (its place / 16); `fields` (document 01, 'Form') has the places of the fields, 64 for each declaration. Each is written whole
 // and read back by one function, or a name, a kind or a condition alone; what is read back is what was written (proofs/Again).
 
@@ -10,8 +10,10 @@ use definitions::FieldDesc;
 use definitions::Found;
 use definitions::MaybeNumber;
 use definitions::MaybePart;
+use definitions::MaybeSize;
 use definitions::Modifier;
 use definitions::Part;
+use definitions::Size;
 ghost use mathlib.Core.Path.{_≡_};
 ghost use mathlib.Core.List.{[], _∷_, _++_};
 ghost use Prim.Native.Nat.{_+_, _*_, _/_, _<_, _^_};
@@ -22,8 +24,8 @@ ghost use Rattle.definitions.specs.Refusals.{isFrame};
 ghost use Rattle.definitions.specs.Sizes.{parentId};
 ghost use Rattle.definitions.specs.declared.FieldDesc.{FieldDesc};
 ghost use Rattle.tables.specs.Words.{bitWord, partWords, maybeWords, maybePartWords, modifierWords, plainWords, typedWords, shapeWords};
-ghost use Rattle.tables.specs.Words.{descWords, condWords, fieldWords, declDescWords, declWords};
-ghost use Rattle.tables.specs.Words.{bitOf, maybeOf, maybePartOf, modifierOf, plainOf, descOf, condOf, fieldOf, declDescOf, declOf};
+ghost use Rattle.tables.specs.Words.{descWords, condWords, fieldWords, declDescWords, statedWords, declWords};
+ghost use Rattle.tables.specs.Words.{bitOf, maybeOf, maybePartOf, modifierOf, plainOf, descOf, condOf, fieldOf, declDescOf, statedOf, declOf};
 ghost use Rattle.tables.specs.Tables.{fieldHere, declHere, countHere, declsFrom, which};
 
 // ---- the entries of a table
@@ -354,43 +356,81 @@ fn decl_desc_at(t: &[u64], at: usize) -> DeclDesc
     )
 }
 
+// What a `bits` line says.
+fn stated_of(tag: u64, n: u64) -> MaybeSize
+    ensures { λ r. ⌜ r ≡ statedOf tag n ⌝ }
+{
+    if tag == 0 {
+        return MaybeSize::None;
+    }
+    if tag == 1 {
+        return MaybeSize::Some(Size::Static(n));
+    }
+    if tag == 2 {
+        return MaybeSize::Some(Size::Dynamic);
+    }
+    MaybeSize::Some(Size::Unknown)
+}
+
+fn stated_at(t: &[u64], at: usize) -> MaybeSize
+    ensures { λ r. ⌜ r ≡ statedOf (getD (now (t .entry)) (at + 7) 0) (getD (now (t .entry)) (at + 8) 0) ⌝ }
+{
+    stated_of(word(t, at, 7), word(t, at, 8))
+}
+
 fn decl_at(t: &[u64], at: usize) -> Decl
     ensures { λ r. ⌜ r ≡ declOf (now (t .entry)) at ⌝ }
 {
     let key = place(number(t, at));
     let id = part_at(t, at, 1, 2);
+    let bits = stated_at(t, at);
     let desc = decl_desc_at(t, at);
-    Decl { key, id, desc }
+    Decl {
+        key,
+        id,
+        bits,
+        desc,
+    }
 }
 
 // The declaration with the index i.
 pub fn decl_here(rows: &[u64], i: usize) -> Decl
     ensures { λ r. ⌜ r ≡ declHere (now (rows .entry)) i ⌝ }
 {
-    if rows.len() / 11 < i {
+    if rows.len() / 13 < i {
         return decl_at(rows, rows.len());
     }
-    decl_at(rows, i * 11)
+    decl_at(rows, i * 13)
 }
 
 // Its name.
 pub fn id_here(rows: &[u64], i: usize) -> Part
     ensures { λ r. ⌜ r ≡ declHere (now (rows .entry)) i .id ⌝ }
 {
-    if rows.len() / 11 < i {
+    if rows.len() / 13 < i {
         return part_at(rows, rows.len(), 1, 2);
     }
-    part_at(rows, i * 11, 1, 2)
+    part_at(rows, i * 13, 1, 2)
+}
+
+// What its `bits` line says.
+pub fn bits_here(rows: &[u64], i: usize) -> MaybeSize
+    ensures { λ r. ⌜ r ≡ declHere (now (rows .entry)) i .bits ⌝ }
+{
+    if rows.len() / 13 < i {
+        return stated_at(rows, rows.len());
+    }
+    stated_at(rows, i * 13)
 }
 
 // The number of its fields.
 pub fn count_here(rows: &[u64], i: usize) -> usize
     ensures { λ r. ⌜ r ≡ countHere (now (rows .entry)) i ⌝ }
 {
-    if rows.len() / 11 < i {
+    if rows.len() / 13 < i {
         return 0;
     }
-    place_at(rows, i * 11, 7)
+    place_at(rows, i * 13, 9)
 }
 
 // A packet or struct.
@@ -697,17 +737,53 @@ fn put_decl_desc(t: &mut [u64], at: usize, desc: DeclDesc)
     }
 }
 
+fn put_stated(t: &mut [u64], at: usize, bits: MaybeSize)
+    requires { ⌜ at < 2 ^ 63 ⌝ }
+    ensures { λ _. ⌜ now (t .exit) ≡ sets (now (t .entry)) at (statedWords bits) ⌝ }
+{
+    match bits {
+        MaybeSize::None => {
+            let words = [0, 0];
+            put_words(t, at, &words);
+        }
+        MaybeSize::Some(size) => match size {
+            Size::Static(n) => {
+                let words = [1, n];
+                put_words(t, at, &words);
+            }
+            Size::Dynamic => {
+                let words = [2, 0];
+                put_words(t, at, &words);
+            }
+            Size::Unknown => {
+                let words = [3, 0];
+                put_words(t, at, &words);
+            }
+        },
+    }
+}
+
+// What a declaration has behind its name.
+fn put_behind(t: &mut [u64], at: usize, desc: DeclDesc, bits: MaybeSize)
+    requires { ⌜ at < 2 ^ 62 ⌝ }
+    ensures { λ _. ⌜ now (t .exit) ≡ sets (now (t .entry)) at (declDescWords desc ++ statedWords bits) ⌝ }
+{
+    put_decl_desc(t, at, desc);
+    put_stated(t, at + 4, bits);
+}
+
 // Writes the declaration with the index i and the number of its fields; nothing is written outside the table.
 pub fn put_decl(rows: &mut [u64], i: usize, d: Decl, count: usize)
-    ensures { λ _. ⌜ now (rows .exit) ≡ sets (now (rows .entry)) (i * 11) (declWords d ++ (count ∷ [])) ⌝ }
+    ensures { λ _. ⌜ now (rows .exit) ≡ sets (now (rows .entry)) (i * 13) (declWords d ++ (count ∷ [])) ⌝ }
 {
-    if rows.len() / 11 < i {
+    if rows.len() / 13 < i {
         return;
     }
     let id = d.id;
+    let bits = d.bits;
     let desc = d.desc;
     let words = [wide(d.key), wide(id.start), wide(id.end)];
-    put_words(rows, i * 11, &words);
-    put_decl_desc(rows, i * 11 + 3, desc);
-    put_number(rows, i * 11 + 7, wide(count));
+    put_words(rows, i * 13, &words);
+    put_behind(rows, i * 13 + 3, desc, bits);
+    put_number(rows, i * 13 + 9, wide(count));
 }

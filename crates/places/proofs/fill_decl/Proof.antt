@@ -1,6 +1,6 @@
 -- `places::fill_decl` meets its contract, by the laws of Filling.
 -- Assumes nothing.
-use Rattle.places.proofs.Filling.{filled-values, filled-fields, one-filled, one-taken, one-bad, one-keyword, one-wrong}
+use Rattle.places.proofs.Filling.{one-filled, one-taken, one-bad, one-keyword, one-wrong}
 use borrow.Author.Needs.{needs}
 use Rattle.places.proofs.fill_decl.Statement.{statement}
 use Rattle.places.proofs.fill_decl.Tie as tie

@@ -14,6 +14,9 @@ place-requires c κs = search needs
 part-at-requires : tie.Need-part-at-requires
 part-at-requires c κs = search needs
 
+stated-at-requires : tie.Need-stated-at-requires
+stated-at-requires c κs = search needs
+
 decl-desc-at-requires : tie.Need-decl-desc-at-requires
 decl-desc-at-requires c κs = search needs
 
@@ -23,4 +26,10 @@ returns c = search (decl-is, needs)
 pub decl-at-spec : {M : Type 1} → statement M
 decl-at-spec =
     tie.close
-    (tie.spec number-requires place-requires part-at-requires decl-desc-at-requires returns)
+    (tie.spec
+    number-requires
+    place-requires
+    part-at-requires
+    stated-at-requires
+    decl-desc-at-requires
+    returns)

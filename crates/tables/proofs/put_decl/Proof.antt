@@ -26,14 +26,14 @@ slice-aggregate-put-words c = search needs
 put-words-requires : tie.Need-put-words-requires
 put-words-requires c κs = search needs
 
-mul-put-decl-desc : tie.Need-mul-put-decl-desc
-mul-put-decl-desc c = search needs
+mul-put-behind : tie.Need-mul-put-behind
+mul-put-behind c = search needs
 
-add-put-decl-desc : tie.Need-add-put-decl-desc
-add-put-decl-desc c = search needs
+add-put-behind : tie.Need-add-put-behind
+add-put-behind c = search needs
 
-put-decl-desc-requires : tie.Need-put-decl-desc-requires
-put-decl-desc-requires c κs = search needs
+put-behind-requires : tie.Need-put-behind-requires
+put-behind-requires c κs = search needs
 
 mul-put-number : tie.Need-mul-put-number
 mul-put-number c = search needs
@@ -51,7 +51,7 @@ same-length : tie.Need-same-length
 same-length c = search needs
 
 returns-2 : tie.Need-returns-2
-returns-2 c = search (decl-put, needs)
+returns-2 c = search (decl-nowhere, decl-put, needs)
 
 pub put-decl-spec : {M : Type 1} → statement M
 put-decl-spec =
@@ -64,9 +64,9 @@ put-decl-spec =
     mul-put-words
     slice-aggregate-put-words
     put-words-requires
-    mul-put-decl-desc
-    add-put-decl-desc
-    put-decl-desc-requires
+    mul-put-behind
+    add-put-behind
+    put-behind-requires
     mul-put-number
     add-put-number
     wide-requires-4
