@@ -187,7 +187,9 @@ module _ (kept : Bool) (s t : Text) (n : ℕ) where
 
     here : (a : Found) → keyAt s p (text "bits=") ≡ a → pick kept false (beginsBits (drop p s)) ≡ false → (b : Found) → FoundAs (To kept s t n inside) a b
         → MaybeSizeAs (onFound a (MaybeSizeRead.Is MaybeSize.None p) λ i. statedAt s i) (onFound b (MaybeSizeRead.Is MaybeSize.None q) λ i. statedAt t i)
-    here (Found.At i) e f (Found.At j) u = stated (kept-here kept (beginsBits (drop p s)) (let c : beginsBits (drop p s) ≡ true = cc (bits-there s p) in c) f) i j u
+    here (Found.At i) e f (Found.At j) u =
+        let c : beginsBits (drop p s) ≡ true = cc (bits-there s p) in
+        stated (kept-here kept (beginsBits (drop p s)) c f) i j u
     here (Found.At i) e f Found.Nothing u = absurd u
     here Found.Nothing e f (Found.At j) u = absurd u
     here Found.Nothing e f Found.Nothing u = (in-none kept, k)
@@ -199,7 +201,8 @@ module _ (kept : Bool) (s t : Text) (n : ℕ) where
     left : kept ≡ false → (i : ℕ) → From kept s (drop q t) away i → MaybeSizeAs (statedAt s i) (MaybeSizeRead.Is MaybeSize.None q)
     left z i r =
         ended (text "dynamic\n") refl _ _
-        (ended (text "unknown\n") refl _ _ (number (numberAt s i) (number-left kept s (drop q t) i r)) λ x u. (left-out kept z (MaybeSize.Some Size.Unknown), from x u))
+        (ended (text "unknown\n") refl _ _ (number (numberAt s i) (number-left kept s (drop q t) i r))
+        λ x u. (left-out kept z (MaybeSize.Some Size.Unknown), from x u))
         λ x u. (left-out kept z (MaybeSize.Some Size.Dynamic), from x u)
       where
         AsNone : MaybeSizeRead → Type 0

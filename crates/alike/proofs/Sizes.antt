@@ -294,7 +294,8 @@ module _ (s t : Text) where
   any-entry f g h SameSchema.done = refl
   any-entry f g h (SameSchema.more {e = x} {f = y} {a} {b} k ks) = same-or (f x) (g y) (any f a) (any g b) (h x y k) (any-entry f g h ks)
 
-  pub annotate-decl : (rs qs : List Row) → SameRows rs qs → (d e : Declaration) → SameDeclaration s t d e → SameEntry (annotateDecl s rs d) (annotateDecl t qs e)
+  pub annotate-decl : (rs qs : List Row) → SameRows rs qs → (d e : Declaration) → SameDeclaration s t d e
+      → SameEntry (annotateDecl s rs d) (annotateDecl t qs e)
   annotate-decl rs qs rows d e h =
       let fields = same-annotateds rs qs rows (d .fields) (e .fields) (h .fields) (h .fields) in
       record { earlier = rows; declaration = h; fields = fields; row = row-of rs qs rows (d .decl) (e .decl) (h .decl) fields }

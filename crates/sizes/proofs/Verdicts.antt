@@ -4,10 +4,10 @@ use Prim.Native.Nat.{ℕ}
 use mathlib.Core.Bool.{Bool, true, false, not}
 use mathlib.Core.List.{List}
 use mathlib.Core.Path.{_≡_, refl, sym, ap, _∙_}
-use Rattle.definitions.specs.Bytes.{Text, any}
+use Rattle.definitions.specs.Bytes.{Text}
 use Rattle.definitions.specs.Record.{isFound}
 use Rattle.definitions.specs.Sizes.{Schema, newSchema}
-use Rattle.definitions.specs.Refusals.{large, ragged, misstated, noTarget, isTarget, refuseIf}
+use Rattle.definitions.specs.Refusals.{large, ragged, misstated, noTarget, refuseIf}
 use Rattle.definitions.specs.declared.Found.{Found}
 use Rattle.definitions.specs.declared.Head.{Head}
 use Rattle.definitions.specs.declared.Refusal.{Refusal}
@@ -19,14 +19,20 @@ use Rattle.sizes.specs.declared.Sizing.{Sizing}
 use Rattle.sizes.proofs.Targets.{found-any}
 use Rattle.sizes.proofs.Stated.{misstated-rows}
 
+-- a refusal, or what is tested behind it
+abbrev onTest : Bool → Refusal → Sizing → Sizing
+onTest b why next = elim b [ true ↦ Sizing.Refuse why | false ↦ next ]
+
+-- the code's answer `b` is that of the definition, and was `t`
+by-test : (why : Refusal) (next : Sizing) {b c t : Bool} → b ≡ c → b ≡ t → onTest t why next ≡ onTest c why next
+by-test why next e h = ap (λ (t : Bool). onTest t why next) (sym h ∙ e)
+
 module _ (s : Text) (h : Head) (rows : List ℕ) (n : ℕ) {b : Bool} (eb : b ≡ misstatedRows (rowsFrom rows 0 n)) where
   told : {t : Bool} → b ≡ t → (v f : List ℕ)
-      → _≡_ {A = Sizing} (elim t [ true ↦ Sizing.Refuse Refusal.Misstated | false ↦ targetOr (targetFrom s (h .target) 0 (entriesFrom s rows v f 0 n)) ])
-      (behindWhole s h (entriesFrom s rows v f 0 n))
+      → onTest t Refusal.Misstated (targetOr (targetFrom s (h .target) 0 (entriesFrom s rows v f 0 n))) ≡ behindWhole s h (entriesFrom s rows v f 0 n)
   unfolding behindWhole
   told ht v f =
-      ap (λ (t : Bool). elim t [ true ↦ Sizing.Refuse Refusal.Misstated | false ↦ targetOr (targetFrom s (h .target) 0 (entriesFrom s rows v f 0 n)) ])
-      (sym ht ∙ eb ∙ sym (misstated-rows s rows v f 0 n))
+      by-test Refusal.Misstated (targetOr (targetFrom s (h .target) 0 (entriesFrom s rows v f 0 n))) (eb ∙ sym (misstated-rows s rows v f 0 n)) ht
 
   pub whole-misstated : b ≡ true → (v f : List ℕ) → Sizing.Refuse Refusal.Misstated ≡ behindWhole s h (entriesFrom s rows v f 0 n)
   whole-misstated hb = told hb
@@ -40,11 +46,9 @@ module _ (s : Text) (h : Head) (rows : List ℕ) (n : ℕ) {b : Bool} (eb : b �
 
 module _ (s : Text) (h : Head) (rows v f : List ℕ) (n : ℕ) {b : Bool} (eb : b ≡ ragged s (entriesFrom s rows v f 0 n)) where
   tested : {t : Bool} → b ≡ t
-      → _≡_ {A = Sizing} (elim t [ true ↦ Sizing.Refuse Refusal.NotWholeBytes | false ↦ behindWhole s h (entriesFrom s rows v f 0 n) ])
-      (behindSchema s h (entriesFrom s rows v f 0 n))
+      → onTest t Refusal.NotWholeBytes (behindWhole s h (entriesFrom s rows v f 0 n)) ≡ behindSchema s h (entriesFrom s rows v f 0 n)
   unfolding behindSchema
-  tested ht =
-      ap (λ (t : Bool). elim t [ true ↦ Sizing.Refuse Refusal.NotWholeBytes | false ↦ behindWhole s h (entriesFrom s rows v f 0 n) ]) (sym ht ∙ eb)
+  tested ht = by-test Refusal.NotWholeBytes (behindWhole s h (entriesFrom s rows v f 0 n)) eb ht
 
   pub behind-ragged : b ≡ true → Sizing.Refuse Refusal.NotWholeBytes ≡ behindSchema s h (entriesFrom s rows v f 0 n)
   behind-ragged hb = tested hb
@@ -57,9 +61,9 @@ module _ (s : Text) (h : Head) (rows v f : List ℕ) (n : ℕ) (rows′ : List �
   all : Schema
   all = newSchema s (declarationsFrom rows v f 0 n)
 
-  by-answer : {t : Bool} → b ≡ t → _≡_ {A = Sizing} (elim t [ true ↦ Sizing.Refuse Refusal.TooLarge | false ↦ behindSchema s h all ]) (checkSizes s h all)
+  by-answer : {t : Bool} → b ≡ t → onTest t Refusal.TooLarge (behindSchema s h all) ≡ checkSizes s h all
   unfolding checkSizes all
-  by-answer hb = ap (λ (t : Bool). elim t [ true ↦ Sizing.Refuse Refusal.TooLarge | false ↦ behindSchema s h all ]) (sym hb ∙ z .answer)
+  by-answer hb = by-test Refusal.TooLarge (behindSchema s h all) (z .answer) hb
 
   pub checked-large : b ≡ true → Checked s h rows v f n rows′ (Sizing.Refuse Refusal.TooLarge)
   unfolding all
@@ -75,45 +79,27 @@ module _ (s : Text) (h : Head) (rows v f : List ℕ) (n : ℕ) (rows′ : List �
 
 -- ---- the rest of `verdict`
 
+test-verdict : (b : Bool) (why : Refusal) (next : Sizing) {v : Verdict} → sizesVerdict next ≡ v → sizesVerdict (onTest b why next) ≡ refuseIf b why v
+test-verdict true why next e = refl
+test-verdict false why next e = e
+
 module _ (s : Text) (h : Head) (schema : Schema) where
-  target-verdict : (r : Found) → sizesVerdict (targetOr r) ≡ refuseIf (not (isFound r)) Refusal.NoTarget Verdict.Pass
-  target-verdict (Found.At i) = refl
-  target-verdict Found.Nothing = refl
+  found-verdict : (r : Found) → sizesVerdict (targetOr r) ≡ refuseIf (not (isFound r)) Refusal.NoTarget Verdict.Pass
+  found-verdict (Found.At i) = refl
+  found-verdict Found.Nothing = refl
 
-  whole-verdict : sizesVerdict (behindWhole s h schema)
-      ≡ refuseIf (misstated schema) Refusal.Misstated (refuseIf (noTarget s h schema) Refusal.NoTarget Verdict.Pass)
-  unfolding behindWhole noTarget
-  whole-verdict = by (misstated schema)
-    where
-      by : (b : Bool) → sizesVerdict (elim b [ true ↦ Sizing.Refuse Refusal.Misstated | false ↦ targetOr (targetFrom s (h .target) 0 schema) ])
-          ≡ refuseIf b Refusal.Misstated (refuseIf (not (any (isTarget s h) schema)) Refusal.NoTarget Verdict.Pass)
-      by true = refl
-      by false =
-          target-verdict (targetFrom s (h .target) 0 schema)
-          ∙ ap (λ (b : Bool). refuseIf (not b) Refusal.NoTarget Verdict.Pass) (found-any s h 0 schema)
-
-  -- 17 and 9
-  abbrev behind : Verdict
-  behind = refuseIf (misstated schema) Refusal.Misstated (refuseIf (noTarget s h schema) Refusal.NoTarget Verdict.Pass)
-
-  behind-verdict : sizesVerdict (behindSchema s h schema) ≡ refuseIf (ragged s schema) Refusal.NotWholeBytes behind
-  unfolding behindSchema
-  behind-verdict = by (ragged s schema)
-    where
-      by : (b : Bool) → sizesVerdict (elim b [ true ↦ Sizing.Refuse Refusal.NotWholeBytes | false ↦ behindWhole s h schema ])
-          ≡ refuseIf b Refusal.NotWholeBytes behind
-      by true = refl
-      by false = whole-verdict
+  target-verdict : sizesVerdict (targetOr (targetFrom s (h .target) 0 schema)) ≡ refuseIf (noTarget s h schema) Refusal.NoTarget Verdict.Pass
+  unfolding noTarget
+  target-verdict =
+      found-verdict (targetFrom s (h .target) 0 schema) ∙ ap (λ (b : Bool). refuseIf (not b) Refusal.NoTarget Verdict.Pass) (found-any s h 0 schema)
 
   pub sizes-verdict : sizesVerdict (checkSizes s h schema)
       ≡ refuseIf (large schema) Refusal.TooLarge
       (refuseIf (ragged s schema) Refusal.NotWholeBytes
       (refuseIf (misstated schema) Refusal.Misstated
       (refuseIf (noTarget s h schema) Refusal.NoTarget Verdict.Pass)))
-  unfolding checkSizes
-  sizes-verdict = by (large schema)
-    where
-      by : (b : Bool) → sizesVerdict (elim b [ true ↦ Sizing.Refuse Refusal.TooLarge | false ↦ behindSchema s h schema ])
-          ≡ refuseIf b Refusal.TooLarge (refuseIf (ragged s schema) Refusal.NotWholeBytes behind)
-      by true = refl
-      by false = behind-verdict
+  unfolding checkSizes behindSchema behindWhole
+  sizes-verdict =
+      test-verdict (large schema) Refusal.TooLarge (behindSchema s h schema)
+      (test-verdict (ragged s schema) Refusal.NotWholeBytes (behindWhole s h schema)
+      (test-verdict (misstated schema) Refusal.Misstated (targetOr (targetFrom s (h .target) 0 schema)) target-verdict))
