@@ -1,7 +1,7 @@
 /*
  * Tests the exported function from C: the marked cases P1 to P13 of document 01, records that are empty, cut or damaged, names that are
- * keywords of C++ (16), lines `bits` (17), buffers of every relevant size, and the cases of the stored sample, which the published Rust
- * answered (oracle/README.md, 'Cases').
+ * keywords of C++ (16), lines `bits` (17), the head line `trailing`, buffers of every relevant size, and the cases of the stored sample,
+ * which the judge answered (oracle/README.md, 'Cases').
  *   test SAMPLE
  * The last line is 'N passed, M failed'; the exit status is 0 if nothing failed.
  */
@@ -343,6 +343,164 @@ static void test_sizes(void)
     expect_answer(HEAD LAMP "bits=12\n" SCALAR("x", "8") SCALAR("y", "4"), 10, "", "a right size", "and an open chunk");
 }
 
+/* ---- what a padded array counts behind a payload: the head line `trailing` of document 02 */
+
+#define REST "decl=struct\nname=Rest\nparent=-\n" PAYLOAD
+#define BLOB "decl=custom\nname=Blob\nwidth=-\n"
+#define COUNT "field=count\nof=a\nwidth=8\nif=-\n"
+#define ARRAY_OF(id, type, count) "field=array\nid=" id "\nwidth=-\ntype=" type "\nmod=-\ncount=" count "\nif=-\n"
+#define CHECKSUM "field=checksum\nof=k\nif=-\n"
+#define PLAIN "trailing=plain\n"
+#define PADDED "trailing=padded\n"
+
+/* Fields behind a payload, and the bytes that are left for them, with the line absent or plain, and padded; NULL is 14. */
+static const struct {
+    const char *label, *fields, *plain, *padded;
+} trailing[] = {
+    {"P13", ARRAY("a", "8", "2") PADDING("8"), "2", "8"},
+    {"a padded array between scalars", SCALAR("x", "8") ARRAY("a", "8", "2") PADDING("8") SCALAR("y", "16"), "5", "11"},
+    {"a padded array with a count field", COUNT ARRAY("a", "8", "-") PADDING("4"), NULL, "5"},
+    {"a padded array with no size", ARRAY("a", "8", "-") PADDING("4"), NULL, "4"},
+    {"a padded array of elements that vary", ARRAY_OF("a", "Blob", "2") PADDING("4"), NULL, "4"},
+    {"two padded arrays", ARRAY("a", "8", "2") PADDING("4") ARRAY("b", "8", "-") PADDING("65535"), NULL, "65539"},
+    {"a padding smaller than its array", ARRAY("a", "8", "4") PADDING("2"), "4", "2"},
+    {"a padding of nothing", ARRAY("a", "8", "2") PADDING("0"), "2", ""},
+    {"two paddings", ARRAY("a", "8", "2") PADDING("3") PADDING("8"), "2", "3"},
+    {"bits around a padded array", SCALAR("x", "4") ARRAY("a", "8", "2") PADDING("8") SCALAR("y", "4"), "3", "9"},
+    {"a checksum before the padding", ARRAY("a", "8", "2") CHECKSUM PADDING("8"), "2", "2"},
+    {"no padding", ARRAY("a", "8", "-"), NULL, NULL},
+    {"a padded array and one that is not", ARRAY("a", "8", "-") PADDING("4") ARRAY("b", "8", "-"), NULL, NULL},
+    {"a padded scalar", SCALAR("x", "8") PADDING("4"), "1", "1"},
+    {"a padded typedef", TYPEDEF("t", "Cell") PADDING("4"), "1", "1"},
+    {"a padded typedef that varies", TYPEDEF("t", "Blob") PADDING("4"), NULL, NULL},
+};
+
+/* The payload's lines, where so many bytes are left behind it, and the lines of the fields alone; or 14. */
+static void test_trailing_bytes(const char *label, const char *line, const char *fields, const char *bytes)
+{
+    static char text[RUPHWENQO_LINES_ROOM];
+    char record[1024];
+    size_t length = 0;
+    if (bytes != NULL) {
+        size_t alone = (size_t)snprintf(record, sizeof record, HEAD CELL BLOB LAMP "%s", fields);
+        if (*bytes == 0)
+            length = (size_t)sprintf(text, "payload_ = span;\nspan.clear();\n");
+        else
+            length = (size_t)sprintf(text,
+                                     "if (span.size() < %s) return false;\npayload_ = span.subrange(0, span.size() - %s);\n"
+                                     "span.skip(span.size() - %s);\n",
+                                     bytes, bytes, bytes);
+        uint64_t number = lower((const uint8_t *)record, alone, (uint8_t *)text + length, sizeof text - length);
+        expect(ruphwenqo_answer(number) == 0, "%s, without a payload", label);
+        length += ruphwenqo_length(number);
+    }
+    size_t whole = (size_t)snprintf(record, sizeof record, HEAD "%s" CELL BLOB LAMP PAYLOAD "%s", line, fields);
+    expect(gives_in_every_room((const uint8_t *)record, whole, bytes == NULL ? 14 : 0, (const uint8_t *)text, length), "%s, %s", label,
+           *line == 0 ? "no line" : line);
+}
+
+static const char *const no_trailing[] = {
+    "trailing=\n", "trailing=-\n", "trailing=Plain\n", "trailing=Padded\n", "trailing=PADDED\n", "trailing= padded\n", "trailing=padded \n",
+    "trailing=padded\r\n", "trailing=padde\n", "trailing=paddedd\n", "trailing=plain0\n", "trailing=0\n", "trailing=plainpadded\n",
+    "Trailing=padded\n", "trailin=padded\n", "trailings=padded\n", " trailing=padded\n", "trailing =padded\n", "trailing==padded\n",
+    "trailing:padded\n", "trailing\n", "padded\n", "trailing=padded", "\n" PADDED, PADDED "\n", PLAIN PLAIN, PADDED PADDED, PLAIN PADDED,
+    PADDED PLAIN, PADDED "arrays=lite\n", "raw=plain\n", "products=plain\n", PADDED "raw=plain\n",
+};
+
+static const struct {
+    const char *place, *record;
+} no_trailing_places[] = {
+    {"first", PADDED HEAD LAMP},
+    {"before target", "endian=little\n" PADDED "target=Lamp\narrays=lite\n" LAMP},
+    {"before arrays", "endian=little\ntarget=Lamp\n" PADDED "arrays=lite\n" LAMP},
+    {"in place of arrays", "endian=little\ntarget=Lamp\n" PADDED LAMP},
+    {"before name", HEAD "decl=packet\n" PADDED "name=Lamp\nparent=-\n"},
+    {"before parent", HEAD "decl=packet\nname=Lamp\n" PADDED "parent=-\n"},
+    {"behind parent", HEAD LAMP PADDED},
+    {"behind bits", HEAD LAMP "bits=0\n" PADDED},
+    {"inside a field", HEAD LAMP "field=body\n" PADDED "if=-\n"},
+    {"behind a field", HEAD LAMP "field=body\nif=-\n" PADDED},
+    {"before a second declaration", HEAD LAMP PADDED CELL},
+    {"in the head and at the end", HEAD PADDED LAMP PADDED},
+    {"before no declaration", HEAD PADDED},
+};
+
+/* Behind HEAD and this line, packets of scalars with names as long as it takes: a record of so many bytes. */
+static size_t long_record(char *record, const char *line, size_t length)
+{
+    char *at = record + sprintf(record, "%s%s%s", HEAD, line, LAMP), *end = record + length;
+    for (unsigned fields = 0; at < end; fields++) {
+        if (fields != 0 && fields % 64 == 0)
+            at += sprintf(at, "decl=packet\nname=P%u\nparent=-\n", fields);
+        size_t left = (size_t)(end - at), bare = strlen(SCALAR("", "8"));
+        size_t name = left < bare + 33 ? left - bare : left < 2 * bare + 33 ? 1 : 32;
+        at += sprintf(at, SCALAR("%.*s", "8"), (int)name, "xxxxxxxxxxxxxxxxxxxxxxxxxxxxxxxx");
+    }
+    return (size_t)(at - record);
+}
+
+/* The line counts among the 16,384 bytes; up to them the lines are those of the record without it. */
+static void test_long_trailing(const char *line)
+{
+    static char record[RUPHWENQO_RECORD_MAX + 100];
+    static uint8_t text[RUPHWENQO_LINES_ROOM];
+    size_t length = long_record(record, "", RUPHWENQO_RECORD_MAX - strlen(line));
+    uint64_t number = lower((const uint8_t *)record, length, text, sizeof text);
+    expect(length == RUPHWENQO_RECORD_MAX - strlen(line) && ruphwenqo_answer(number) == 0, "a long record without %s", line);
+    length = long_record(record, line, RUPHWENQO_RECORD_MAX);
+    expect(length == RUPHWENQO_RECORD_MAX && gives_in_every_room((const uint8_t *)record, length, 0, text, ruphwenqo_length(number)),
+           "16,384 bytes with %s", line);
+    length = long_record(record, line, RUPHWENQO_RECORD_MAX + 1);
+    expect(length == RUPHWENQO_RECORD_MAX + 1 && gives((const uint8_t *)record, length, RUPHWENQO_LINES_ROOM, 1, text, 0),
+           "16,385 bytes with %s", line);
+}
+
+static void test_trailing(void)
+{
+    for (size_t i = 0; i < sizeof trailing / sizeof trailing[0]; i++) {
+        test_trailing_bytes(trailing[i].label, "", trailing[i].fields, trailing[i].plain);
+        test_trailing_bytes(trailing[i].label, PLAIN, trailing[i].fields, trailing[i].plain);
+        test_trailing_bytes(trailing[i].label, PADDED, trailing[i].fields, trailing[i].padded);
+    }
+    for (size_t i = 0; i < sizeof no_trailing / sizeof no_trailing[0]; i++) {
+        char record[256];
+        snprintf(record, sizeof record, HEAD "%s" LAMP, no_trailing[i]);
+        expect_answer(record, 2, "", "a head with", no_trailing[i]);
+    }
+    for (size_t i = 0; i < sizeof no_trailing_places / sizeof no_trailing_places[0]; i++)
+        expect_answer(no_trailing_places[i].record, 2, "", "a line `trailing`", no_trailing_places[i].place);
+    test_long_trailing(PLAIN);
+    test_long_trailing(PADDED);
+
+    /* a typedef of unknown size, a payload with a size, and no payload at all */
+#define NESTED(bytes) \
+    "if (span.size() < " bytes ") return false;\npdl::packet::slice t_span = span.subrange(0, span.size() - " bytes ");\n" \
+    "if (!Rest::Parse(t_span, &t_)) return false;\nspan.skip(t_span.size());\n"
+#define TWO_OF_EIGHT \
+    "size_t a_start_size = span.size();\n" CHECK("2") "a_ = span.subrange(0, 2);\nspan.skip(2);\nif (a_start_size - span.size() < 8) {\n" \
+    "    if (span.size() < 8 - (a_start_size - span.size())) return false;\n    span.skip(8 - (a_start_size - span.size()));\n}\n"
+    expect_answer(HEAD REST LAMP TYPEDEF("t", "Rest") ARRAY("a", "8", "2") PADDING("8"), 0, NESTED("2") TWO_OF_EIGHT, "a typedef,", "no line");
+    expect_answer(HEAD PADDED REST LAMP TYPEDEF("t", "Rest") ARRAY("a", "8", "2") PADDING("8"), 0, NESTED("8") TWO_OF_EIGHT, "a typedef,", PADDED);
+    expect_answer(HEAD REST LAMP TYPEDEF("t", "Rest") ARRAY("a", "8", "-") PADDING("8"), 14, "", "a typedef, an array with no size,", "no line");
+    expect_answer(HEAD PADDED LAMP PAYLOAD ARRAY("a", "8", "2") PADDING("8"), 0,
+                  "if (span.size() < 8) return false;\npayload_ = span.subrange(0, span.size() - 8);\nspan.skip(span.size() - 8);\n" TWO_OF_EIGHT,
+                  "P13,", PADDED);
+    expect_answer(HEAD PADDED LAMP ARRAY("a", "8", "2") PADDING("8"), 0, TWO_OF_EIGHT, "a padded array alone,", PADDED);
+
+    /* optional: 14 under both, and 13 where no trailing size is needed */
+    expect_answer(HEAD PADDED LAMP PAYLOAD "field=array\nid=a\nwidth=8\ntype=-\nmod=-\ncount=2\nif=c\nis=1\n" PADDING("8"), 14, "",
+                  "an optional array,", PADDED);
+    expect_answer(HEAD PADDED LAMP PAYLOAD ARRAY("a", "8", "2") "field=padding\nbytes=8\nif=c\nis=1\n", 14, "", "an optional padding,", PADDED);
+    expect_answer(HEAD PADDED LAMP "field=array\nid=a\nwidth=8\ntype=-\nmod=-\ncount=2\nif=c\nis=1\n" PADDING("8"), 13, "",
+                  "an optional array alone,", PADDED);
+
+    /* 2 before 16 and 17, and these as ever */
+    expect_answer(HEAD "trailing=Padded\n" LAMP SCALAR("int", "8"), 2, "", "another word", "and a keyword");
+    expect_answer(HEAD PADDED LAMP SCALAR("int", "8"), 16, "", "a keyword,", PADDED);
+    expect_answer(HEAD PADDED LAMP "bits=16\n" PAYLOAD ARRAY("a", "8", "2") PADDING("8"), 17, "", "a wrong size,", PADDED);
+    expect_answer(HEAD PADDED LAMP "bits=unknown\n" ARRAY("a", "8", "-") PADDING("8"), 17, "", "a wrong size of an array with no size,", PADDED);
+}
+
 /* ---- the stored sample */
 
 /* The number that ends at the byte `stop`; *at goes behind it. Any other text ends the test. */
@@ -416,6 +574,7 @@ int main(int argc, char **argv)
     test_keywords();
     test_cut_stated();
     test_sizes();
+    test_trailing();
     test_sample(sample, size);
     free(sample);
     printf("%u passed, %u failed\n", passed, failed);

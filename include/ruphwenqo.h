@@ -41,7 +41,8 @@ extern "C" {
  *   11  a typedef of a non-enum, a payload or a body, without a condition, comes while a chunk is open and nothing is pending
  *   12  a chunk reaches an octet boundary with more than 64 bits
  *   13  an optional field is neither scalar nor typedef
- *   14  a later field is not static, where a trailing size is needed
+ *   14  a later field is not static, where a trailing size is needed. With the head line `trailing=padded` an array with a padding
+ *       counts as static: docs/RECORD.md, 'trailing'
  *   15  the lines are longer than out_len bytes
  *   16  a name of the record is a keyword of C++17, as `register` or `xor`: docs/RECORD.md lists the 84 words
  *   17  a line `bits` is not its declaration's own size, without its parents and its payload: docs/RECORD.md, 'bits'

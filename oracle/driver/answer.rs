@@ -1,9 +1,11 @@
-//! The answer to any byte string: our refusals 1 to 9, 16 and 17, then what the published Rust gives.
+//! The answer to any byte string: our refusals 1 to 9, 16 and 17, then what the published Rust gives; for
+//! `trailing=padded` what it gives where later arrays count as document 02 (Card 3) says.
 
 use crate::analyzer::{Schema, Scope};
-use crate::backends::cxx::field_parser::{self, Panic};
+use crate::backends::{cxx, cxx_padded};
+use crate::panics::Panic;
 use crate::published;
-use crate::record::{Decl, Record};
+use crate::record::{Decl, Record, Trailing};
 use crate::refusals::{self, Refusal};
 use crate::sizes::Tables;
 
@@ -26,7 +28,7 @@ pub fn with_any_name(bytes: &[u8]) -> Answer {
 }
 
 /// From refusal 7 on.
-fn lines_of(record: &Record) -> Answer {
+pub fn lines_of(record: &Record) -> Answer {
     let tables = Tables::new(record);
     refusals::of_the_sizes(&tables)?;
 
@@ -37,7 +39,11 @@ fn lines_of(record: &Record) -> Answer {
 
     refusals::of_the_target(record, &tables)?;
     let target = scope.typedef[&record.target];
-    match field_parser::lines(&scope, &schema, record.arrays, target) {
+    let lines = match record.trailing {
+        None | Some(Trailing::Plain) => cxx::field_parser::lines,
+        Some(Trailing::Padded) => cxx_padded::field_parser::lines,
+    };
+    match lines(&scope, &schema, record.arrays, target) {
         Ok(code) => Ok(joined(&code)),
         Err(panic) => Err(of_panic(record, panic)),
     }

@@ -2,10 +2,10 @@
 //! `histogram` counts features; `select` chooses cases by them.
 
 use crate::analyzer::{self, ArraySize, ElementSize, Schema, Scope};
-use crate::answer::Answer;
+use crate::answer::{self, Answer};
 use crate::keywords::is_like_a_keyword;
 use crate::published;
-use crate::record::{Arrays, Decl, DeclDesc, Element, Endian, Field, FieldDesc, Record, Stated};
+use crate::record::{Arrays, Decl, DeclDesc, Element, Endian, Field, FieldDesc, Record, Stated, Trailing};
 use crate::sizes::{unpadded, DeclSizes, Size, Tables};
 use std::collections::BTreeSet;
 
@@ -16,12 +16,16 @@ pub fn features(bytes: &[u8], answer: &Answer) -> BTreeSet<String> {
             found.insert("answer 00".to_string());
             let record = Record::read(bytes).expect("it was accepted");
             of_accepted(&record, lines, &mut found);
+            found.extend(trailing(record, lines));
         }
         Err(refusal) => {
             found.insert(format!("answer {:02}", refusal.number));
             found.insert(format!("because {:02} {}", refusal.number, refusal.because));
             if let (10..=14, Ok(record)) = (refusal.number, Record::read(bytes)) {
                 of_target(&record, "refused", &mut found);
+                if let (14, Some(Trailing::Padded)) = (refusal.number, record.trailing) {
+                    found.insert("trailing padded: 14".to_string());
+                }
             }
             if let (17, Ok(record)) = (refusal.number, Record::read(bytes)) {
                 found.extend(misstated(&record));
@@ -149,6 +153,64 @@ fn misstated(record: &Record) -> Vec<String> {
     ];
     let notes = notes.into_iter().filter_map(|(holds, note)| holds.then_some(note));
     notes.map(|note| format!("wrong bits {note}")).collect()
+}
+
+/// The line `trailing` of an accepted record: beside the lines with `plain`, and by the arrays that count padded.
+fn trailing(record: Record, lines: &[u8]) -> Vec<String> {
+    let word = match record.trailing {
+        None => return Vec::new(),
+        Some(Trailing::Plain) => return vec!["trailing plain".to_string()],
+        Some(Trailing::Padded) => "trailing padded",
+    };
+    let mut notes = counted_padded(&record);
+    notes.push(match answer::lines_of(&Record { trailing: None, ..record }) {
+        Ok(plain) if plain == lines => "the same lines as plain",
+        Ok(_) => "other lines than plain",
+        Err(_) => "14 where plain",
+    });
+    let notes = notes.into_iter().map(|note| format!("{word}: {note}"));
+    notes.chain([word.to_string()]).collect()
+}
+
+/// What the target's first field that needs a trailing size is, and which later arrays count padded.
+fn counted_padded(record: &Record) -> Vec<&'static str> {
+    let at = record.position(&record.target).expect("it was accepted");
+    let sizes = &Tables::new(record).0[at];
+    let fields = record.decls[at].fields();
+    let opens = |at: &usize| match &fields[*at].desc {
+        FieldDesc::Payload { .. } | FieldDesc::Body | FieldDesc::Typedef { .. } => {
+            sizes.fields[*at] == Size::Unknown
+        }
+        _ => false,
+    };
+    let Some(first) = (0..fields.len()).find(opens) else {
+        return vec!["no trailing size is needed"];
+    };
+    let is_array =
+        |at: usize| fields[at].cond.is_none() && matches!(fields[at].desc, FieldDesc::Array { .. });
+    let counted =
+        |at: usize| sizes.padded[at].filter(|_| is_array(at)).map_or(sizes.fields[at], Size::Static);
+    let sum = (first + 1..fields.len()).map(counted).fold(Size::ZERO, Size::plus);
+    let arrays = (first + 1..fields.len()).filter(|at| is_array(*at));
+    let mut notes: Vec<&str> = arrays
+        .filter_map(|at| Some((sizes.fields[at], sizes.padded[at]?)))
+        .flat_map(|(own, padding)| {
+            let own = match own {
+                Size::Static(bits) if bits < padding => "a Static array, its padding larger",
+                Size::Static(bits) if bits > padding => "a Static array, its padding smaller",
+                Size::Static(_) => "a Static array, its padding as large",
+                Size::Dynamic => "a Dynamic array",
+                Size::Unknown => "an Unknown array",
+            };
+            [Some(own), (padding == 0).then_some("a padding of 0")].into_iter().flatten()
+        })
+        .collect();
+    notes.extend(sum.bits().filter(|bits| *bits > (1 << 31) - 1).map(|_| "past 2^31 - 1 bits"));
+    notes.push(match fields[first].desc {
+        FieldDesc::Typedef { .. } => "behind a typedef",
+        _ => "behind a payload or body",
+    });
+    notes
 }
 
 /// The shapes of the target's arrays, alone and with their kind of element.

@@ -1,18 +1,11 @@
 //! Asks the published `FieldParser`. It is private to cxx.rs, so the build appends this module
-//! to a copy of that file, as its child.
+//! to a copy of that file, as its child; and to cxx_padded.rs, which is used for `trailing=padded`.
 
 use super::FieldParser;
 use crate::analyzer::{Schema, Scope};
 use crate::ast;
+use crate::panics::{listen, Panic};
 use crate::record::Arrays;
-use std::cell::Cell;
-use std::panic::{self, AssertUnwindSafe};
-
-/// A panic of the published code: at which field (at their number: the end), and its message.
-pub struct Panic {
-    pub at: usize,
-    pub message: String,
-}
 
 fn new<'a>(
     scope: &'a Scope<'a>,
@@ -64,28 +57,4 @@ pub fn lines(
         Ok(()) => Ok(parser.code),
         Err(message) => Err(Panic { at, message }),
     }
-}
-
-thread_local! {
-    static LISTENING: Cell<bool> = const { Cell::new(false) };
-}
-
-/// Panics inside `listen` print nothing; all others print as ever.
-pub fn install_quiet_hook() {
-    let loud = panic::take_hook();
-    panic::set_hook(Box::new(move |info| {
-        if !LISTENING.get() {
-            loud(info);
-        }
-    }));
-}
-
-fn listen(run: impl FnOnce()) -> Result<(), String> {
-    LISTENING.set(true);
-    let outcome = panic::catch_unwind(AssertUnwindSafe(run));
-    LISTENING.set(false);
-    outcome.map_err(|payload| match payload.downcast::<String>() {
-        Ok(message) => *message,
-        Err(payload) => payload.downcast_ref::<&str>().copied().unwrap_or_default().to_string(),
-    })
 }

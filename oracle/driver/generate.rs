@@ -1,13 +1,15 @@
 //! Records by chance, from a seed. They follow the grammar of document 01 and lean towards
 //! acceptance: runs mostly fill whole octets, names are few so that fields really name each other.
-//! No name is a keyword of C++ but in the flavour that is about names, and no line `bits` stands but in
-//! the one that is about sizes as they are stated.
+//! No name is a keyword of C++ but in the flavour that is about names, no line `bits` stands but in
+//! the one that is about sizes as they are stated, and both stand seldom in the one that is about the
+//! line `trailing`, which no other has.
 
 use crate::damage;
 use crate::names;
 use crate::random::Random;
 use crate::sketch::{self, DeclSketch, Sketch};
 use crate::stated;
+use crate::trailing;
 
 #[derive(Clone, Copy)]
 pub enum Flavour {
@@ -23,17 +25,21 @@ pub enum Flavour {
     /// whose records are what they are without it.
     Names,
     /// Small, mixed and large ones whose packets and structs have lines `bits`: right, wrong and broken
-    /// ones. No other flavour has such lines, and it stands behind them as `Names` does.
+    /// ones. It stands behind the others as `Names` does.
     Stated,
+    /// Fields that need a trailing size, with arrays behind them, and the others of document 01, under a head
+    /// without the line `trailing`, with either word, or with a broken one. It stands behind the others too.
+    Trailing,
 }
 
-pub const FLAVOURS: [(&str, Flavour); 6] = [
+pub const FLAVOURS: [(&str, Flavour); 7] = [
     ("small", Flavour::Small),
     ("mixed", Flavour::Mixed),
     ("damaged", Flavour::Damaged),
     ("sizes", Flavour::Sizes),
     ("names", Flavour::Names),
     ("stated", Flavour::Stated),
+    ("trailing", Flavour::Trailing),
 ];
 
 /// The records of a seed, one after the other.
@@ -53,6 +59,7 @@ fn record(flavour: Flavour, random: &mut Random) -> Vec<u8> {
         Flavour::Sizes => near_the_largest_size(random).bytes(),
         Flavour::Names => renamed(random),
         Flavour::Stated => with_sizes(random),
+        Flavour::Trailing => with_trailing(random),
     }
 }
 
@@ -84,6 +91,31 @@ fn with_sizes(random: &mut Random) -> Vec<u8> {
         names::rename(&mut lines, random);
     }
     if random.once_in(12) {
+        return damage::damaged(lines, random);
+    }
+    sketch::joined(&lines)
+}
+
+fn with_trailing(random: &mut Random) -> Vec<u8> {
+    let mut whole = match random.below(16) {
+        0 => trailing::large_sketch(BLOCK, random),
+        1 => mixed(random),
+        2 | 3 => small(random),
+        _ => trailing::sketch(random),
+    };
+    if random.once_in(12) {
+        stated::pad(&mut whole, random);
+    }
+    let line = random.pick(&["", " plain", " padded", " padded"]);
+    whole.head += line;
+    let mut lines = if random.once_in(8) { stated::lines(&whole, random) } else { whole.lines() };
+    if random.once_in(32) {
+        names::rename(&mut lines, random);
+    }
+    if !line.is_empty() && random.once_in(8) {
+        trailing::break_line(&mut lines, random);
+    }
+    if random.once_in(24) {
         return damage::damaged(lines, random);
     }
     sketch::joined(&lines)

@@ -1,4 +1,5 @@
-//! The quickest way from an accepted record to the published types, for timing: it tests nothing.
+//! The quickest way from an accepted record to the published types, for timing: it tests nothing. The timed
+//! records have no line `trailing`.
 
 use crate::analyzer::{Schema, Scope};
 use crate::ast;

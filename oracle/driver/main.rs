@@ -8,6 +8,8 @@ mod backends {
     pub mod common;
     #[allow(dead_code)]
     pub mod cxx;
+    #[allow(dead_code)]
+    pub mod cxx_padded;
 }
 
 mod answer;
@@ -20,10 +22,13 @@ mod features;
 mod generate;
 mod histogram;
 mod keywords;
+mod later;
 mod lean;
 mod marked;
 mod marked_bits;
+mod marked_trailing;
 mod names;
+mod panics;
 #[cfg(port)]
 mod port;
 mod published;
@@ -34,6 +39,7 @@ mod sizes;
 mod sketch;
 mod stated;
 mod timing;
+mod trailing;
 
 use answer::{answer, Answer, BUFFER};
 use cases::Case;
@@ -52,8 +58,9 @@ judge words                          the keywords of refusal 16, one a line
 judge marked > CASES                 the marked cases of document 01, its faults and its limits
 judge keywords > CASES               the marked cases of refusal 16, each of its words among them
 judge bits > CASES                   the marked cases of refusal 17: sizes, order, form and length
+judge trailing > CASES               the marked cases of the line `trailing`: what counts, order, form and length
 judge generate SEED COUNT FLAVOUR > CASES
-                                     cases by chance: small, mixed, damaged, sizes, names or stated
+                                     cases by chance: small, mixed, damaged, sizes, names, stated or trailing
 judge select EACH < CASES > CASES    those with a feature that fewer than EACH of document 01's
                                      marked cases and those chosen before show
 judge replay < CASES                 whether the stored answers are the judge's
@@ -68,7 +75,7 @@ judge compare SEED COUNT             the port against the judge: all marked case
 type Outcome = Result<ExitCode, Box<dyn Error>>;
 
 fn main() -> Outcome {
-    backends::cxx::field_parser::install_quiet_hook();
+    panics::install_quiet_hook();
     let arguments: Vec<String> = std::env::args().skip(1).collect();
     let words: Vec<&str> = arguments.iter().map(String::as_str).collect();
     match words[..] {
@@ -80,6 +87,7 @@ fn main() -> Outcome {
         ["marked"] => write_cases(marked::records()),
         ["keywords"] => write_cases(marked::keyword_records()),
         ["bits"] => write_cases(marked_bits::records()),
+        ["trailing"] => write_cases(marked_trailing::records()),
         ["generate", seed, count, flavour] => {
             write_cases(generate::records(named(flavour)?, seed.parse()?, count.parse()?))
         }
@@ -232,8 +240,8 @@ fn compare_port(seed: u64, count: usize) -> Outcome {
     let mut comparison = compare::Comparison::new();
     let mut differences = 0;
     let generated = FLAVOURS.iter().flat_map(|(_, flavour)| generate::records(*flavour, seed, count));
-    let of_refusals = marked::keyword_records().into_iter().chain(marked_bits::records());
-    let marked = marked::records().into_iter().chain(of_refusals);
+    let of_requests = [marked::keyword_records(), marked_bits::records(), marked_trailing::records()];
+    let marked = marked::records().into_iter().chain(of_requests.into_iter().flatten());
     for record in marked.chain(generated) {
         let answer = answer(&record);
         if let Some(difference) = comparison.difference(&record, &answer) {

@@ -1,6 +1,6 @@
-//! The record of document 01, section 'The record', with the line `bits` of document 02 (Card 10): its
-//! parts, and the reader of its form. Whatever departs from the form is refusal 2; the size of a number
-//! is not form (refusal 6), nor whether a size is stated rightly (refusal 17).
+//! The record of document 01, section 'The record', with the lines `trailing` and `bits` of document 02
+//! (Cards 3 and 10): its parts, and the reader of its form. Whatever departs from the form is refusal 2;
+//! the size of a number is not form (refusal 6), nor whether a size is stated rightly (refusal 17).
 
 /// What of the form a record breaks, and at which key.
 pub type Flaw = String;
@@ -17,10 +17,19 @@ pub enum Arrays {
     Full,
 }
 
+/// What a padded array counts in a trailing size: its field size, or its padded size.
+#[derive(Clone, Copy, PartialEq, Eq)]
+pub enum Trailing {
+    Plain,
+    Padded,
+}
+
 pub struct Record {
     pub endian: Endian,
     pub target: String,
     pub arrays: Arrays,
+    /// The line `trailing`, which need not be there; without it the record is plain.
+    pub trailing: Option<Trailing>,
     pub decls: Vec<Decl>,
 }
 
@@ -173,11 +182,12 @@ impl Record {
         let endian = lines.read("endian", endian)?;
         let target = lines.name("target")?;
         let arrays = lines.read("arrays", arrays)?;
+        let trailing = lines.read_if_there("trailing", trailing)?;
         let mut decls = vec![read_decl(&mut lines)?];
         while !lines.at_end() {
             decls.push(read_decl(&mut lines)?);
         }
-        Ok(Record { endian, target, arrays, decls })
+        Ok(Record { endian, target, arrays, trailing, decls })
     }
 
     pub fn position(&self, name: &str) -> Option<usize> {
@@ -223,10 +233,7 @@ fn read_decl(lines: &mut Lines) -> Result<Decl, Flaw> {
 
 fn read_block(lines: &mut Lines) -> Result<Block, Flaw> {
     let parent = lines.optional("parent", name)?;
-    let stated = match lines.next_is("bits") {
-        true => Some(lines.read("bits", stated)?),
-        false => None,
-    };
+    let stated = lines.read_if_there("bits", stated)?;
     let mut fields = Vec::new();
     while lines.next_is("field") {
         fields.push(read_field(lines)?);
@@ -308,6 +315,14 @@ impl<'a> Lines<'a> {
         read(self.value(key)?).map_err(|flaw| format!("{key}: {flaw}"))
     }
 
+    /// The value of a line that need not be there.
+    fn read_if_there<T>(&mut self, key: &str, read: Reader<T>) -> Result<Option<T>, Flaw> {
+        match self.next_is(key) {
+            true => self.read(key, read).map(Some),
+            false => Ok(None),
+        }
+    }
+
     /// A value, or `-` where it is absent.
     fn optional<T>(&mut self, key: &str, read: Reader<T>) -> Result<Option<T>, Flaw> {
         match self.value(key)? {
@@ -337,6 +352,14 @@ fn arrays(value: &[u8]) -> Result<Arrays, &'static str> {
     match value {
         b"lite" => Ok(Arrays::Lite),
         b"full" => Ok(Arrays::Full),
+        _ => Err("another word"),
+    }
+}
+
+fn trailing(value: &[u8]) -> Result<Trailing, &'static str> {
+    match value {
+        b"plain" => Ok(Trailing::Plain),
+        b"padded" => Ok(Trailing::Padded),
         _ => Err("another word"),
     }
 }

@@ -1,7 +1,8 @@
 //! Records in shorthand, for writing them by hand and by chance:
 //! `little Lamp lite; packet Lamp -: scalar amps 12, reserved 4, scalar x 8 if c 1, payload -`.
-//! First the head's three values, then the declarations; each word is the value of one key. A packet
-//! or struct may have a word more, the value of `bits`: `packet Lamp - 16: scalar amps 16`.
+//! First the head's three values, then the declarations; each word is the value of one key. The head may
+//! have a word more, the value of `trailing`: `little Lamp lite padded`. So may a packet or struct, the
+//! value of `bits`: `packet Lamp - 16: scalar amps 16`.
 
 #[derive(Clone)]
 pub struct Sketch {
@@ -15,7 +16,12 @@ pub struct DeclSketch {
     pub fields: Vec<String>,
 }
 
-const HEAD_KEYS: [&str; 3] = ["endian", "target", "arrays"];
+fn head_keys(words: usize) -> &'static [&'static str] {
+    match words {
+        4 => &["endian", "target", "arrays", "trailing"],
+        _ => &["endian", "target", "arrays"],
+    }
+}
 
 fn decl_keys(kind: &str, words: usize) -> &'static [&'static str] {
     match kind {
@@ -55,7 +61,8 @@ impl Sketch {
     /// The record's lines, without newlines.
     pub fn lines(&self) -> Vec<String> {
         let mut lines = Vec::new();
-        push_lines(&mut lines, &HEAD_KEYS, &words(&self.head));
+        let values = words(&self.head);
+        push_lines(&mut lines, head_keys(values.len()), &values);
         for decl in &self.decls {
             let values = words(&decl.head);
             push_lines(&mut lines, decl_keys(values[0], values.len()), &values);

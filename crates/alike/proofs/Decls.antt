@@ -9,7 +9,7 @@ use lib.Dec.{ltb}
 use lib.ListN.{length, drop, length-drop, drop-of-length-le}
 use borrow.Author.Tests.{ltb-true, ltb-false, lt-ltb, le-ltb}
 use Rattle.definitions.specs.Bytes.{Text, text, pick}
-use Rattle.definitions.specs.Record.{keyOf, keyAt, onFound, onName, onDecl, onFields, nameLine, parentedAt, packetAt, structAt, enumAt, checksumDeclAt, customAt, declAt, Declaration, Fields, fieldsAre, noFields, Declarations, declarationsAre, noDeclarations, fieldsBehind, withDeclaration, declarationsAt}
+use Rattle.definitions.specs.Record.{keyOf, onName, onDecl, onFields, nameLine, parentedAt, packetAt, structAt, enumAt, checksumDeclAt, customAt, declAt, Declaration, Fields, fieldsAre, noFields, Declarations, declarationsAre, noDeclarations, fieldsBehind, withDeclaration, declarationsAt}
 use Rattle.definitions.specs.declared.Part.{Part}
 use Rattle.definitions.specs.declared.MaybePart.{MaybePart}
 use Rattle.definitions.specs.declared.MaybeSize.{MaybeSize}
@@ -21,8 +21,8 @@ use Rattle.lengths.proofs.Booleans.{impossible}
 use Rattle.alike.specs.Without.{beginsBits}
 use Rattle.alike.proofs.Same.{SamePart, SameMaybe, SameFields, SameDeclDesc, SameDecl, SameDeclarations, Stating}
 use Rattle.alike.proofs.Rests.{start, inside, Rests, itself-line, shorter, same-line, at-line, left-too}
-use Rattle.alike.proofs.Leaves.{fits, line-first, other-key}
-use Rattle.alike.proofs.Lines.{on-found, Beyond, then-number, then-name, then-bit, then-maybe-number, then-maybe-name, then-bits, in-none}
+use Rattle.alike.proofs.Leaves.{other-key}
+use Rattle.alike.proofs.Lines.{Beyond, then-line, then-number, then-name, then-bit, then-maybe-number, then-maybe-name, then-bits, in-none}
 use Rattle.alike.proofs.Fields.{ReadFields, fields-as}
 
 module _ (kept : Bool) (s t : Text) (n : ℕ) where
@@ -77,19 +77,15 @@ module _ (kept : Bool) (s t : Text) (n : ℕ) where
         (record { id = e; desc = SameDeclDesc.custom }, in-none kept, u)
 
   module _ (p q : ℕ) (r : Rests kept inside (drop p s) (drop q t)) (l : length (drop q t) ≤ n) where
-    then-decl : (line : Text) → fits true line ≡ true → (bad bad₂ : DeclRead) → DeclAs bad bad₂ → (f g : ℕ → DeclRead)
-        → ((i j : ℕ) → Beyond kept s t n i j → DeclAs (f i) (g j)) → DeclAs (onFound (keyAt s p line) bad f) (onFound (keyAt t q line) bad₂ g)
-    then-decl line c bad bad₂ w f g h =
-        on-found DeclAs (Beyond kept s t n) bad bad₂ w (keyAt s p line) (keyAt t q line) f g (line-first kept s t n line p q c r l) h
-
     pub decl-as : DeclAs (declAt s p) (declAt t q)
     unfolding declAt
     decl-as =
-        then-decl (text "decl=packet\n") refl _ _
-        (then-decl (text "decl=struct\n") refl _ _
-        (then-decl (text "decl=enum\n") refl _ _
-        (then-decl (text "decl=checksum\n") refl _ _
-        (then-decl (text "decl=custom\n") refl DeclRead.Wrong DeclRead.Wrong tt (λ i. customAt s p i) (λ i. customAt t q i) (custom-as p q))
+        then-line kept s t n DeclAs p q r l (text "decl=packet\n") refl _ _
+        (then-line kept s t n DeclAs p q r l (text "decl=struct\n") refl _ _
+        (then-line kept s t n DeclAs p q r l (text "decl=enum\n") refl _ _
+        (then-line kept s t n DeclAs p q r l (text "decl=checksum\n") refl _ _
+        (then-line kept s t n DeclAs p q r l (text "decl=custom\n") refl DeclRead.Wrong DeclRead.Wrong tt
+        (λ i. customAt s p i) (λ i. customAt t q i) (custom-as p q))
         (λ i. checksumDeclAt s p i) (λ i. checksumDeclAt t q i) (checksum-as p q))
         (λ i. enumAt s p i) (λ i. enumAt t q i) (enum-as p q))
         (λ i. structAt s p i) (λ i. structAt t q i) (struct-as p q))
@@ -115,7 +111,7 @@ decl-no-bits s p d i e = by (beginsBits (drop p s)) refl
     by true h = impossible (cc (decl-wrong s p h))
     by false h = refl
 
-declarations-no-bits : (s : Text) (f p : ℕ) (ds : List Declaration) → declarationsAt s f p ≡ declarationsAre ds → beginsBits (drop p s) ≡ false
+pub declarations-no-bits : (s : Text) (f p : ℕ) (ds : List Declaration) → declarationsAt s f p ≡ declarationsAre ds → beginsBits (drop p s) ≡ false
 unfolding declarationsAt
 declarations-no-bits s zero p ds e = impossible (cc)
 declarations-no-bits s (suc f) p ds e = by (declAt s p) refl e

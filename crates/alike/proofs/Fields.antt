@@ -23,8 +23,8 @@ use Rattle.lengths.proofs.Booleans.{impossible}
 use Rattle.alike.specs.Without.{beginsBits}
 use Rattle.alike.proofs.Same.{SamePart, SameMaybe, SameDesc, SameCond, SameField, SameFields}
 use Rattle.alike.proofs.Rests.{start, inside, Rests, same-line}
-use Rattle.alike.proofs.Leaves.{fits, FoundAs, To, key-there, line-first, no-bits}
-use Rattle.alike.proofs.Lines.{plain, on-found, Beyond, then-number, then-name, then-modifier, then-maybe-number, then-maybe-name}
+use Rattle.alike.proofs.Leaves.{fits, FoundAs, To, key-there, no-bits}
+use Rattle.alike.proofs.Lines.{plain, Beyond, then-line, then-number, then-name, then-modifier, then-maybe-number, then-maybe-name}
 
 -- a pair, and so pairs in pairs
 _&_ : {A B : Type 0} → A → B → A × B
@@ -143,9 +143,7 @@ module _ (kept : Bool) (s t : Text) (n : ℕ) where
   module _ (p q : ℕ) (r : Rests kept inside (drop p s) (drop q t)) (l : length (drop q t) ≤ n) where
     choose-as : (ks : Kinds) → KindsAs ks → DescAs (choose ks s (drop p s) p) (choose ks t (drop q t) q)
     choose-as [] k = tt
-    choose-as (x ∷ ks) k =
-        on-found DescAs (Beyond kept s t n) _ _ (choose-as ks (k .1)) (keyAt s p (x .0)) (keyAt t q (x .0)) _ _
-        (line-first kept s t n (x .0) p q (k .0 .0) r l) (k .0 .1)
+    choose-as (x ∷ ks) k = then-line kept s t n DescAs p q r l (x .0) (k .0 .0) _ _ (choose-as ks (k .1)) (x .1 s) (x .1 t) (k .0 .1)
 
     desc-as : DescAs (descAt s p) (descAt t q)
     unfolding descAt

@@ -2,8 +2,9 @@
 -- Assumes nothing.
 use mathlib.Core.Bool.{Bool, true, false, _&&_}
 use mathlib.Core.Path.{_≡_, refl, sym, subst}
-use Prim.Native.Nat.{ℕ}
-use lib.ListN.{drop}
+use Prim.Native.Nat.{ℕ, _≤_}
+use native.Mathlib.Omega.{arith}
+use lib.ListN.{length, drop}
 use Rattle.definitions.specs.Bytes.{Text, text, pick}
 use Rattle.definitions.specs.Record.{keyAt, numberAt, nameAt, onFound, onNumber, onName, onBit, onModifier, onMaybeNumber, onMaybeSize, onMaybePart, numberLine, nameLine, bitLine, maybeNumberLine, maybeNameLine, modifierLine, statedAt, bitsLine}
 use Rattle.definitions.specs.declared.Part.{Part}
@@ -23,8 +24,8 @@ use Rattle.definitions.specs.declared.MaybePartRead.{MaybePartRead}
 use Rattle.lengths.proofs.Booleans.{impossible}
 use Rattle.alike.specs.Without.{beginsBits}
 use Rattle.alike.proofs.Same.{SamePart, SameMaybe}
-use Rattle.alike.proofs.Rests.{start, inside, away, Rests, same, cut}
-use Rattle.alike.proofs.Leaves.{fits, differ, FoundAs, NumberAs, NameAs, To, key-there, number-there, name-there, bits-there, other-key, cleaned, FoundOn, NumberOn, From, key-left, number-left}
+use Rattle.alike.proofs.Rests.{start, inside, away, Rests, same, cut, same-line}
+use Rattle.alike.proofs.Leaves.{fits, differ, FoundAs, NumberAs, NameAs, To, key-there, line-first, number-there, name-there, bits-there, other-key, cleaned, FoundOn, NumberOn, From, key-left, number-left}
 
 -- a key of no newline that is not `bits=`
 abbrev pub plain : Text → Bool
@@ -34,10 +35,14 @@ both : (a b : Bool) → (a && b) ≡ true → (a ≡ true) × (b ≡ true)
 both true b e = (refl, e)
 both false b e = impossible (cc)
 
+-- a line, with its newline, that is no line `bits`
+abbrev Whole : Text → Type 0
+Whole line = (fits true line ≡ true) × (differ line (text "bits=") ≡ true)
+
 -- ---- on from two answers
 
 module _ {A : Type 0} (Q : A → A → Type 0) (R : ℕ → ℕ → Type 0) where
-  pub on-found : (bad bad₂ : A) → Q bad bad₂ → (a b : Found) (f g : ℕ → A) → FoundAs R a b → ((i j : ℕ) → R i j → Q (f i) (g j))
+  on-found : (bad bad₂ : A) → Q bad bad₂ → (a b : Found) (f g : ℕ → A) → FoundAs R a b → ((i j : ℕ) → R i j → Q (f i) (g j))
       → Q (onFound a bad f) (onFound b bad₂ g)
   on-found bad bad₂ w (Found.At i) (Found.At j) f g u h = h i j u
   on-found bad bad₂ w (Found.At i) Found.Nothing f g u h = absurd u
@@ -242,6 +247,47 @@ module _ (kept : Bool) (s t : Text) (n : ℕ) where
                   cleaned (drop p s) (drop q t)
                       (subst (λ (y : Bool). Rests y start (drop p s) (drop q t)) z (k .rests)),
                 ))
+
+  -- ---- a line of one word
+
+  -- one of a line's choices
+  pub then-line : {A : Type 0} (Q : A → A → Type 0) (p q : ℕ) → Rests kept inside (drop p s) (drop q t) → length (drop q t) ≤ n
+      → (line : Text) → fits true line ≡ true → (bad bad₂ : A) → Q bad bad₂ → (f g : ℕ → A) → ((i j : ℕ) → Beyond i j → Q (f i) (g j))
+      → Q (onFound (keyAt s p line) bad f) (onFound (keyAt t q line) bad₂ g)
+  then-line Q p q r l line c bad bad₂ w f g h =
+      on-found Q Beyond bad bad₂ w (keyAt s p line) (keyAt t q line) f g (line-first kept s t n line p q c r l) h
+
+  -- what was read before is P, and nothing is asked before a line `bits`: an optional line that stands behind it is read in the second text alone
+  abbrev pub SoFar : Type 0 → ℕ → ℕ → Type 0
+  SoFar P p q = beginsBits (drop p s) ≡ false → P × Beyond p q
+
+  -- an optional line of two words, absent as if it had the first; `read` is the answer, of a word and the place behind
+  module _ {A W : Type 0} (read : W → ℕ → A) (word : A → W) (next : A → ℕ) (law : (w : W) (i : ℕ) → (word (read w i) ≡ w) × (next (read w i) ≡ i))
+      (first second : W) (a b : Text) (c : Whole a) (d : Whole b) (P : Type 0) where
+    abbrev optionalAt : Text → ℕ → A
+    optionalAt u p = onFound (keyAt u p a) (onFound (keyAt u p b) (read first p) (read second)) (read first)
+
+    abbrev Adds : A → A → Type 0
+    Adds x y = SoFar (P × (word x ≡ word y)) (next x) (next y)
+
+    adds : (w : W) (i j : ℕ) → SoFar P i j → Adds (read w i) (read w j)
+    adds w i j u = rw (law w i .0, law w j .0, law w i .1, law w j .1) λ e. ((u e .0, refl), u e .1)
+
+    -- it adds its word to what was read before
+    pub then-optional : (p q : ℕ) → SoFar P p q → Adds (optionalAt s p) (optionalAt t q)
+    then-optional p q k = by (beginsBits (drop p s)) refl
+      where
+        by : (x : Bool) → beginsBits (drop p s) ≡ x → Adds (optionalAt s p) (optionalAt t q)
+        by true e = rw (other-key s p a (c .1) e, other-key s p b (d .1) e, law first p .1) λ g. impossible (cc)
+        by false e =
+            let r : Rests kept inside (drop p s) (drop q t) = same-line e (k e .1 .rests) in
+            let l : length (drop q t) ≤ n = omega (arith, k e .1 .less) in
+            then-line Adds p q r l a (c .0) _ _
+            (then-line Adds p q r l b (d .0) (read first p) (read first q) (adds first p q k) (read second) (read second) (found second))
+            (read first) (read first) (found first)
+          where
+            found : (w : W) (i j : ℕ) → Beyond i j → Adds (read w i) (read w j)
+            found w i j u = adds w i j λ g. (k e .0, u)
 
   -- ---- a line, and what follows it
 

@@ -5,9 +5,9 @@ use mathlib.Core.List.{List, [], _∷_}
 use mathlib.Core.Bool.{Bool, true, false}
 use Prim.Native.Nat.{ℕ, _+_}
 use Rattle.definitions.specs.Bytes.{Text, text}
-use Rattle.definitions.specs.Sizes.{Annotated, Entry, Schema, hasPayloadSize, enumOf, isBitfield}
+use Rattle.definitions.specs.Sizes.{Annotated, Entry, Schema, isArray, hasPayloadSize, enumOf, isBitfield}
 use Rattle.definitions.specs.Blocks.{Bit, Chunk}
-use Rattle.definitions.specs.FieldParser.{Setting, FieldParser, Step, go, stop, andThen, new, flushed, checkCode, member, fieldName, isCondOf, isCondFor, kindOf, bitOf, parseBitField, Emit, appends, trailingFrom, onTrailing, typedefBlock, typedefBySize, parseTypedefField, optionalTypedef, parseOptionalField, payloadName, unsizedPayload, payloadBySize, parsePayloadFieldLite, sizeBits, sizeBacking, elemOf, typeName, arrayOf, parseArrayField, parseOther, isBit, parseUnchecked, emitted, parse, parseAll, Outcome, codeOf, lowerFields}
+use Rattle.definitions.specs.FieldParser.{Setting, FieldParser, Step, go, stop, andThen, new, flushed, checkCode, member, fieldName, isCondOf, isCondFor, kindOf, bitOf, parseBitField, Emit, appends, isArrayField, laterSize, trailingFrom, getTrailingSize, onTrailing, typedefBlock, typedefBySize, parseTypedefField, optionalTypedef, parseOptionalField, payloadName, unsizedPayload, payloadBySize, parsePayloadFieldLite, sizeBits, sizeBacking, elemOf, typeName, arrayOf, parseArrayField, parseOther, isBit, parseUnchecked, emitted, parse, parseAll, Outcome, codeOf, lowerFields}
 use Rattle.definitions.specs.Answer.{settingOf, lowerTarget, lowerIn}
 use Rattle.definitions.specs.declared.EnumOf.{EnumOf}
 use Rattle.definitions.specs.declared.Part.{Part}
@@ -15,6 +15,7 @@ use Rattle.definitions.specs.declared.MaybePart.{MaybePart}
 use Rattle.definitions.specs.declared.MaybeNumber.{MaybeNumber}
 use Rattle.definitions.specs.declared.Modifier.{Modifier}
 use Rattle.definitions.specs.declared.Options.{Options}
+use Rattle.definitions.specs.declared.Trailing.{Trailing}
 use Rattle.definitions.specs.declared.Head.{Head}
 use Rattle.definitions.specs.declared.FieldDesc.{FieldDesc}
 use Rattle.definitions.specs.declared.Cond.{Cond}
@@ -24,7 +25,7 @@ use Rattle.definitions.specs.declared.Reference.{Reference}
 use Rattle.lengths.proofs.Booleans.{impossible}
 use Rattle.alike.proofs.Same.{SamePart, SameMaybe, SameDesc, SameCond, SameField, SameFields, SameHead}
 use Rattle.alike.proofs.Names.{same-name, same-payload-id, any-field, SameReference, same-reference, has-payload-size}
-use Rattle.alike.proofs.Sizes.{SameRows, enum-of, is-bitfield, element-size, array-size, SameAnnotated, SameAnnotateds, SameEntry, SameSchema}
+use Rattle.alike.proofs.Sizes.{SameRows, is-array, enum-of, is-bitfield, element-size, array-size, SameAnnotated, SameAnnotateds, SameEntry, SameSchema}
 use Rattle.alike.proofs.Refusals.{is-target}
 
 pub record SameSetting (c d : Setting) : Type 0 where
@@ -62,6 +63,9 @@ module _ (c d : Setting) (same : SameSetting c d) where
 
   same-order : c .options .endianness ≡ d .options .endianness
   same-order = ap (λ (o : Options). o .endianness) (same .options)
+
+  same-trailing : c .options .trailing ≡ d .options .trailing
+  same-trailing = ap (λ (o : Options). o .trailing) (same .options)
 
   -- ---- names
 
@@ -110,25 +114,44 @@ module _ (c d : Setting) (same : SameSetting c d) where
 
   -- ---- fields that are no bit fields
 
-  trailing-from : (sum : ℕ) {xs ys : List Annotated} → SameAnnotateds s t xs ys → trailingFrom sum xs ≡ trailingFrom sum ys
-  unfolding trailingFrom
-  trailing-from sum SameAnnotateds.done = refl
-  trailing-from sum (SameAnnotateds.more {a} {b} {xs} {ys} k ks) = by (a .fieldSize) (b .fieldSize) (k .fieldSize) (λ n. trailing-from n ks)
+  is-array-field : (f g : Field) → SameField s t f g → isArrayField f ≡ isArrayField g
+  is-array-field f g h = by (h .cond)
     where
-      by : (x y : Size) → x ≡ y → ((n : ℕ) → trailingFrom n xs ≡ trailingFrom n ys)
+      by : {x y : Cond} → SameCond s t x y
+          → _≡_ {A = Bool}
+          (elim x [ Cond.None ↦ isArray (f .desc) | Cond.Some id value ↦ false ])
+          (elim y [ Cond.None ↦ isArray (g .desc) | Cond.Some id value ↦ false ])
+      by SameCond.none = is-array s t (h .desc)
+      by (SameCond.some p) = refl
+
+  later-size : (m : Trailing) (a b : Annotated) → SameAnnotated s t a b → laterSize m a ≡ laterSize m b
+  unfolding laterSize
+  later-size Trailing.Plain a b k = k .fieldSize
+  later-size Trailing.Padded a b k = cc (is-array-field (a .field) (b .field) (k .field))
+
+  trailing-from : (m : Trailing) (sum : ℕ) {xs ys : List Annotated} → SameAnnotateds s t xs ys → trailingFrom m sum xs ≡ trailingFrom m sum ys
+  unfolding trailingFrom
+  trailing-from m sum SameAnnotateds.done = refl
+  trailing-from m sum (SameAnnotateds.more {a} {b} {xs} {ys} k ks) = by (laterSize m a) (laterSize m b) (later-size m a b k) (λ n. trailing-from m n ks)
+    where
+      by : (x y : Size) → x ≡ y → ((n : ℕ) → trailingFrom m n xs ≡ trailingFrom m n ys)
           → _≡_ {A = MaybeNumber}
-          (elim x [ Size.Static bits ↦ trailingFrom (sum + bits) xs | Size.Dynamic ↦ MaybeNumber.None | Size.Unknown ↦ MaybeNumber.None ])
-          (elim y [ Size.Static bits ↦ trailingFrom (sum + bits) ys | Size.Dynamic ↦ MaybeNumber.None | Size.Unknown ↦ MaybeNumber.None ])
-      by (Size.Static m) y e h = rw (← e) (h (sum + m))
+          (elim x [ Size.Static bits ↦ trailingFrom m (sum + bits) xs | Size.Dynamic ↦ MaybeNumber.None | Size.Unknown ↦ MaybeNumber.None ])
+          (elim y [ Size.Static bits ↦ trailingFrom m (sum + bits) ys | Size.Dynamic ↦ MaybeNumber.None | Size.Unknown ↦ MaybeNumber.None ])
+      by (Size.Static n) y e h = rw (← e) (h (sum + n))
       by Size.Dynamic y e h = rw (← e)
       by Size.Unknown y e h = rw (← e)
+
+  get-trailing-size : {xs ys : List Annotated} → SameAnnotateds s t xs ys
+      → getTrailingSize (c .options .trailing) xs ≡ getTrailingSize (d .options .trailing) ys
+  get-trailing-size ks = cc (same-trailing, trailing-from (d .options .trailing) 0 ks)
 
   typedef-by : (x : Size) (a b m n : Part) → SamePart s t a b → SamePart s t m n → {xs ys : List Annotated} → SameAnnotateds s t xs ys
       → typedefBySize c a m xs x ≡ typedefBySize d b n ys x
   typedef-by (Size.Static bits) a b m n p q ks = cc (same-member a b p)
   typedef-by Size.Dynamic a b m n p q ks = cc (same-member a b p)
   typedef-by Size.Unknown a b m n p q ks =
-      on-trailing _ _ _ _ (trailing-from 0 ks) (λ bits. typedef-block bits)
+      on-trailing _ _ _ _ (get-trailing-size ks) (λ bits. typedef-block bits)
     where
       typedef-block : (bits : ℕ) → appends (typedefBlock c a m bits) ≡ appends (typedefBlock d b n bits)
       typedef-block bits = cc (same-member a b p)
@@ -139,7 +162,7 @@ module _ (c d : Setting) (same : SameSetting c d) where
   payload-by : (modifier : Modifier) {xs ys : List Annotated} → SameAnnotateds s t xs ys → (x : Bool)
       → payloadBySize c modifier xs x ≡ payloadBySize d modifier ys x
   payload-by modifier ks true = cc (payload-name (text "_"), payload-name (text "_size_"))
-  payload-by modifier ks false = on-trailing _ _ _ _ (trailing-from 0 ks) (λ bits. by bits)
+  payload-by modifier ks false = on-trailing _ _ _ _ (get-trailing-size ks) (λ bits. by bits)
     where
       by : (bits : ℕ) → appends (unsizedPayload (payloadName c (text "_")) bits) ≡ appends (unsizedPayload (payloadName d (text "_")) bits)
       by bits = ap (λ (x : Text). appends (unsizedPayload x bits)) (payload-name (text "_"))

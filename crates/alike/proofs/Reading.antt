@@ -9,41 +9,37 @@ use lib.Dec.{eqb}
 use lib.ListN.{length, drop}
 use borrow.Author.Tests.{ne-eqb}
 use Rattle.definitions.specs.Bytes.{Text, text}
-use Rattle.definitions.specs.Record.{keyOf, keyAt, onFound, onName, onHead, nameLine, onArrays, headAt, Declaration, Declarations, declarationsAre, noDeclarations, declarationsAt, RecordRead, recordIs, noRecord, withHead, readRecord}
+use Rattle.definitions.specs.Record.{keyOf, onName, onHead, nameLine, onArrays, trailingAt, headIs, headAt, Declaration, Declarations, declarationsAre, noDeclarations, declarationsAt, RecordRead, recordIs, noRecord, withHead, readRecord}
 use Rattle.definitions.specs.declared.Part.{Part}
 use Rattle.definitions.specs.declared.EndiannessValue.{EndiannessValue}
 use Rattle.definitions.specs.declared.Arrays.{Arrays}
+use Rattle.definitions.specs.declared.Trailing.{Trailing}
 use Rattle.definitions.specs.declared.Head.{Head}
+use Rattle.definitions.specs.declared.TrailingRead.{TrailingRead}
 use Rattle.definitions.specs.declared.HeadRead.{HeadRead}
 use Rattle.lengths.proofs.Booleans.{impossible}
 use Rattle.alike.specs.Without.{beginsBits, withoutBits}
-use Rattle.alike.proofs.Same.{SameDeclarations, SameHead, Stating}
+use Rattle.alike.proofs.Same.{SamePart, SameDeclarations, SameHead, Stating}
 use Rattle.alike.proofs.Rests.{start, inside, Rests, same, cut, without, shorter, same-line}
-use Rattle.alike.proofs.Leaves.{fits, line-first, other-key}
-use Rattle.alike.proofs.Lines.{on-found, Beyond, then-name}
-use Rattle.alike.proofs.Decls.{ReadDeclarations, declarations-as}
+use Rattle.alike.proofs.Leaves.{other-key}
+use Rattle.alike.proofs.Lines.{Beyond, then-line, SoFar, then-optional, then-name}
+use Rattle.alike.proofs.Decls.{declarations-no-bits, ReadDeclarations, declarations-as}
 
 -- ---- the head
 
-abbrev headIs : EndiannessValue → Part → Arrays → ℕ → HeadRead
-headIs m target arrays i = HeadRead.Is (record { options = record { endianness = m; arrays = arrays }; target = target }) i
+-- what stands behind `arrays`: the optional line
+abbrev headEnd : Text → EndiannessValue → Part → Arrays → ℕ → HeadRead
+headEnd s m target arrays i = headIs m target arrays (trailingAt s i)
 
 -- what stands behind its first line
 abbrev headThen : Text → EndiannessValue → ℕ → HeadRead
-headThen s m i = onName (nameLine s i (text "target=")) HeadRead.Wrong λ target q. onArrays s q HeadRead.Wrong (headIs m target)
+headThen s m i = onName (nameLine s i (text "target=")) HeadRead.Wrong λ target q. onArrays s q HeadRead.Wrong (headEnd s m target)
 
 module _ (kept : Bool) (s t : Text) (n : ℕ) where
   abbrev pub HeadAs : HeadRead → HeadRead → Type 0
   HeadAs HeadRead.Wrong r = Unit {0}
   HeadAs (HeadRead.Is h p) HeadRead.Wrong = ⊥
-  HeadAs (HeadRead.Is h p) (HeadRead.Is k q) = SameHead s t h k × Beyond kept s t n p q
-
-  -- one of a line's two choices
-  module _ (p q : ℕ) (r : Rests kept inside (drop p s) (drop q t)) (l : length (drop q t) ≤ n) where
-    then-line : (line : Text) → fits true line ≡ true → (bad bad₂ : HeadRead) → HeadAs bad bad₂ → (f g : ℕ → HeadRead)
-        → ((i j : ℕ) → Beyond kept s t n i j → HeadAs (f i) (g j)) → HeadAs (onFound (keyAt s p line) bad f) (onFound (keyAt t q line) bad₂ g)
-    then-line line c bad bad₂ w f g h =
-        on-found HeadAs (Beyond kept s t n) bad bad₂ w (keyAt s p line) (keyAt t q line) f g (line-first kept s t n line p q c r l) h
+  HeadAs (HeadRead.Is h p) (HeadRead.Is k q) = SoFar kept s t n (SameHead s t h k) p q
 
   then-arrays : (p q : ℕ) → Beyond kept s t n p q → (f g : Arrays → ℕ → HeadRead)
       → ((m : Arrays) (i j : ℕ) → Beyond kept s t n i j → HeadAs (f m i) (g m j)) → HeadAs (onArrays s p HeadRead.Wrong f) (onArrays t q HeadRead.Wrong g)
@@ -51,21 +47,32 @@ module _ (kept : Bool) (s t : Text) (n : ℕ) where
     where
       by : Rests kept start (drop p s) (drop q t) → HeadAs (onArrays s p HeadRead.Wrong f) (onArrays t q HeadRead.Wrong g)
       by (same e r) =
-          then-line p q r (omega (arith, k .less)) (text "arrays=lite\n") refl _ _
-          (then-line p q r (omega (arith, k .less)) (text "arrays=full\n") refl HeadRead.Wrong HeadRead.Wrong tt _ _ (h Arrays.Full)) _ _ (h Arrays.Lite)
+          then-line kept s t n HeadAs p q r (omega (arith, k .less)) (text "arrays=lite\n") refl _ _
+          (then-line kept s t n HeadAs p q r (omega (arith, k .less)) (text "arrays=full\n") refl HeadRead.Wrong HeadRead.Wrong tt _ _ (h Arrays.Full)) _ _
+          (h Arrays.Lite)
       by (cut z e r) = rw (other-key s p (text "arrays=lite\n") refl e, other-key s p (text "arrays=full\n") refl e) tt
+
+  -- an optional line adds the word that it reads to what was read before
+  trailing-as : (P : Type 0) (p q : ℕ) → SoFar kept s t n P p q
+      → SoFar kept s t n (P × (trailingAt s p .trailing ≡ trailingAt t q .trailing)) (trailingAt s p .next) (trailingAt t q .next)
+  unfolding trailingAt
+  trailing-as P p q k =
+      then-optional kept s t n (λ m i. record { trailing = m; next = i }) (λ (x : TrailingRead). x .trailing) (λ (x : TrailingRead). x .next)
+      (λ m i. (refl, refl)) Trailing.Plain Trailing.Padded (text "trailing=plain\n") (text "trailing=padded\n") (refl, refl) (refl, refl) P p q k
 
   pub head-as : (p q : ℕ) → Rests kept inside (drop p s) (drop q t) → length (drop q t) ≤ n → HeadAs (headAt s p) (headAt t q)
   unfolding headAt
   head-as p q r l =
-      then-line p q r l (text "endian=little\n") refl _ _
-      (then-line p q r l (text "endian=big\n") refl HeadRead.Wrong HeadRead.Wrong tt _ _ (rest EndiannessValue.BigEndian)) _ _
+      then-line kept s t n HeadAs p q r l (text "endian=little\n") refl _ _
+      (then-line kept s t n HeadAs p q r l (text "endian=big\n") refl HeadRead.Wrong HeadRead.Wrong tt _ _ (rest EndiannessValue.BigEndian)) _ _
       (rest EndiannessValue.LittleEndian)
     where
       rest : (m : EndiannessValue) (i j : ℕ) → Beyond kept s t n i j → HeadAs (headThen s m i) (headThen t m j)
       rest m i j k =
           then-name kept s t n HeadAs HeadRead.Wrong (λ x. tt) i j k (text "target=") refl _ _ λ a b x y e u.
-          then-arrays x y u (headIs m a) (headIs m b) λ o v w z. (record { options = refl; target = e }, z)
+          then-arrays x y u (headEnd s m a) (headEnd t m b) λ o v w z c.
+          let h = trailing-as (SamePart s t a b) v w (λ d. (e, z)) c in
+          (record { options = cc (h .0 .1); target = h .0 .0 }, h .1)
 
 -- ---- the whole
 
@@ -97,13 +104,14 @@ record-as kept s t h ds e r =
         → (a : Declarations) → declarationsAt s (length s) i ≡ a → withHead o a ≡ recordIs h ds → Result
     rest o k i j g u noDeclarations c z = impossible (cc)
     rest o k i j g u (declarationsAre zs) c z =
+        let v : declarationsAt s (length s) i ≡ declarationsAre ds = cc in
+        let x : SameHead s t o k × Beyond kept s t (length t) i j = u (declarations-no-bits s (length s) i ds v) in
         let w : ReadDeclarations kept s t (declarationsAt t (length t) j) ds =
-        declarations-as kept s t (length s) (length t) i j ds (let v : declarationsAt s (length s) i ≡ declarationsAre ds = cc in v) (u .1 .rests)
-        (u .1 .less) in (
+        declarations-as kept s t (length s) (length t) i j ds v (x .1 .rests) (x .1 .less) in (
           k,
           w .declarations,
           ap (λ (a : HeadRead). onHead a noRecord (then t)) g ∙ ap (withHead k) (w .read),
-          subst (λ (x : Head). SameHead s t x k) (let v : o ≡ h = cc in v) (u .0),
+          subst (λ (y : Head). SameHead s t y k) (let y : o ≡ h = cc in y) (x .0),
           w .same,
           w .stating,
         )

@@ -6,7 +6,7 @@ use mathlib.Core.Bool.{Bool, true, false}
 use mathlib.Core.Option.{Option, none, some}
 use Rattle.definitions.specs.Bytes.{Text, any}
 use Rattle.definitions.specs.Record.{Declaration}
-use Rattle.definitions.specs.Sizes.{addSize, Row, totalSize, lookup, totalOf, parentOf, arrayBits, descSize, annotateField, paddingBits, paddedBy, Annotated, annotateFields, isPayload, fieldsSize, payloadsSize, parentId, declSizeOf, payloadSizeOf, rowOf, Entry, Schema, annotateDecl, annotateFrom, newSchema, elementSize, countedBy, firstCount, arraySize, descEnum, enumOf, isBitfield}
+use Rattle.definitions.specs.Sizes.{addSize, Row, totalSize, lookup, totalOf, parentOf, arrayBits, descSize, annotateField, paddingBits, paddedBy, Annotated, annotateFields, isPayload, isArray, fieldsSize, payloadsSize, parentId, declSizeOf, payloadSizeOf, rowOf, Entry, Schema, annotateDecl, annotateFrom, newSchema, elementSize, countedBy, firstCount, arraySize, descEnum, enumOf, isBitfield}
 use Rattle.definitions.specs.declared.EnumOf.{EnumOf}
 use Rattle.definitions.specs.declared.Part.{Part}
 use Rattle.definitions.specs.declared.MaybePart.{MaybePart}
@@ -234,6 +234,22 @@ module _ (s t : Text) where
   is-payload (SameDesc.scalar p) = refl
   is-payload (SameDesc.flag p) = refl
   is-payload (SameDesc.typedef p q) = refl
+
+  pub is-array : {d e : FieldDesc} → SameDesc s t d e → isArray d ≡ isArray e
+  is-array (SameDesc.checksum p) = refl
+  is-array SameDesc.padding = refl
+  is-array (SameDesc.size p) = refl
+  is-array (SameDesc.count p) = refl
+  is-array (SameDesc.elementSize p) = refl
+  is-array SameDesc.body = refl
+  is-array SameDesc.payload = refl
+  is-array SameDesc.fixedScalar = refl
+  is-array (SameDesc.fixedEnum p q) = refl
+  is-array SameDesc.reserved = refl
+  is-array (SameDesc.array p q) = refl
+  is-array (SameDesc.scalar p) = refl
+  is-array (SameDesc.flag p) = refl
+  is-array (SameDesc.typedef p q) = refl
 
   fields-size : (x y : Size) → x ≡ y → {xs ys : List Annotated} → SameAnnotateds xs ys → fieldsSize x xs ≡ fieldsSize y ys
   unfolding fieldsSize

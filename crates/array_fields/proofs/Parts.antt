@@ -3,11 +3,9 @@
 use Prim.Native.Nat.{ℕ, _<_}
 use mathlib.Core.Bool.{Bool, true, false}
 use mathlib.Core.List.{List}
-use mathlib.Core.Path.{_≡_, refl, sym, ap, _∙_}
-use borrow.Author.Tests.{ltb-false}
+use mathlib.Core.Path.{_≡_, sym, ap, _∙_}
 use Rattle.definitions.specs.Bytes.{Text, pick}
 use Rattle.definitions.specs.Sizes.{Row, enumOf, elementSize, arraySize}
-use Rattle.definitions.specs.Refusals.{tooLarge, badMaybe}
 use Rattle.definitions.specs.declared.EnumOf.{EnumOf}
 use Rattle.definitions.specs.declared.ArraySize.{ArraySize}
 use Rattle.definitions.specs.declared.ElementSize.{ElementSize}
@@ -16,12 +14,11 @@ use Rattle.definitions.specs.declared.MaybeNumber.{MaybeNumber}
 use Rattle.definitions.specs.declared.MaybePart.{MaybePart}
 use Rattle.definitions.specs.declared.Part.{Part}
 use Rattle.bits.specs.Capped.{cappedNumber}
-use Rattle.bits.proofs.Caps.{cap-under}
 use Rattle.elements.specs.declared.Element.{Element}
 use Rattle.emits.specs.declared.BlockAt.{BlockAt}
 use Rattle.tables.specs.Tables.{Tables, tablesOf, rowsOf, fieldsOf}
 use Rattle.emits.specs.Target.{annotatedAt, Fine}
-use Rattle.emits.proofs.Fines.{padding-fine}
+use Rattle.emits.proofs.Fines.{read-padding}
 use Rattle.array_fields.specs.declared.ArrayField.{ArrayField}
 use Rattle.array_fields.specs.Arrays.{typedElement, elementAt, bytesOf, arrayAt}
 
@@ -55,19 +52,13 @@ module _ (s : Text) (rows : List Row) (order : EndiannessValue) {w : MaybeNumber
 pub bytes-as : {m c : MaybeNumber} {r : MaybeNumber} → m ≡ c → r ≡ bytesOf c → r ≡ bytesOf m
 bytes-as e h = h ∙ ap bytesOf (sym e)
 
--- within the limit nothing is changed
-number-fine : (p : MaybeNumber) → badMaybe tooLarge p ≡ false → cappedNumber p ≡ p
-number-fine MaybeNumber.None h = refl
-number-fine (MaybeNumber.Some bits) h = ap (λ (n : ℕ). MaybeNumber.Some n) (sym (cap-under bits (ltb-false 2147483647 bits h)))
-
 module _ (s rows values fields : List ℕ) (i n k : ℕ) where
   abbrev tables : Tables
   tables = tablesOf s rows values fields
 
   pub padding-bytes : Fine tables i n → k < n → {p : MaybeNumber} → p ≡ cappedNumber (annotatedAt tables i n k .paddedSize) → {r : MaybeNumber} → r ≡ bytesOf p
       → r ≡ bytesOf (annotatedAt tables i n k .paddedSize)
-  padding-bytes fine h ep er =
-      er ∙ ap bytesOf (ep ∙ number-fine (annotatedAt tables i n k .paddedSize) (padding-fine s rows values fields i n fine k h))
+  padding-bytes fine h ep er = er ∙ ap bytesOf (read-padding s rows values fields i n fine k h ep)
 
   -- ---- the block
 

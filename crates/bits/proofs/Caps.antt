@@ -107,6 +107,10 @@ capped-fine (Size.Static n) h = ap (λ (n : ℕ). Size.Static n) (sym (cap-under
 capped-fine Size.Dynamic h = refl
 capped-fine Size.Unknown h = refl
 
+pub number-fine : (p : MaybeNumber) → badMaybe tooLarge p ≡ false → cappedNumber p ≡ p
+number-fine MaybeNumber.None h = refl
+number-fine (MaybeNumber.Some bits) h = ap (λ (n : ℕ). MaybeNumber.Some n) (sym (cap-under bits (ltb-false 2147483647 bits h)))
+
 -- ---- the product
 
 module _ (a b : ℕ) where

@@ -7,7 +7,7 @@ use mathlib.Core.List.{List, [], _∷_, _++_}
 use Prim.Native.Nat.{ℕ, zero, suc, _*_, _^_}
 use Prim.Native.String.{String}
 use lib.Dec.{eqb}
-use lib.ListN.{length, replicate, drop}
+use lib.ListN.{length, replicate, take, drop}
 use Rattle.definitions.specs.Bytes.{Text, text, same, all}
 use Rattle.definitions.specs.Keywords.{keywords}
 use Rattle.definitions.specs.Answer.{Lowered, lower, word, bufferAfter}
@@ -66,6 +66,10 @@ agrees a b = eqb (a .answered) (b .answered) && same (a .lines) (b .lines)
 right : Case → Bool
 right c = agrees (lower (c .given) 65536) (c .expected)
 
+-- the packet of P13
+thirteen : Text
+thirteen = packet "Lamp" ++ (payload ++ (plain "array\nid=a\nwidth=8\ntype=-\nmod=-\ncount=2" ++ plain "padding\nbytes=8"))
+
 -- P1 to P13
 marked : List Case
 marked =
@@ -99,12 +103,15 @@ marked =
     ∷ prints (lamp (plain "size\nof=_payload_\nwidth=8" ++ (payload ++ optional)))
     "if (span.size() < 1) {\n    return false;\n}\npayload_size_ = span.read_le<uint8_t, 1>();\nif (span.size() < payload_size_) return false;\npayload_ = span.subrange(0, payload_size_);\nspan.skip(payload_size_);\nif (c == 1) {\n    if (span.size() < 1) {\n        return false;\n    }\n    o_ = span.read_le<uint8_t, 1>();\n}\n"
     -- P13: trailing 2 bytes, not 8
-    ∷ prints (lamp (payload ++ (plain "array\nid=a\nwidth=8\ntype=-\nmod=-\ncount=2" ++ plain "padding\nbytes=8")))
+    ∷ prints (lite ++ thirteen)
     "if (span.size() < 2) return false;\npayload_ = span.subrange(0, span.size() - 2);\nspan.skip(span.size() - 2);\nsize_t a_start_size = span.size();\nif (span.size() < 2) {\n    return false;\n}\na_ = span.subrange(0, 2);\nspan.skip(2);\nif (a_start_size - span.size() < 8) {\n    if (span.size() < 8 - (a_start_size - span.size())) return false;\n    span.skip(8 - (a_start_size - span.size()));\n}\n"
+    -- and with `padded` 8 (document 02, Card 3)
+    ∷ prints (lite ++ (text "trailing=padded\n" ++ thirteen))
+    "if (span.size() < 8) return false;\npayload_ = span.subrange(0, span.size() - 8);\nspan.skip(span.size() - 8);\nsize_t a_start_size = span.size();\nif (span.size() < 2) {\n    return false;\n}\na_ = span.subrange(0, 2);\nspan.skip(2);\nif (a_start_size - span.size() < 8) {\n    if (span.size() < 8 - (a_start_size - span.size())) return false;\n    span.skip(8 - (a_start_size - span.size()));\n}\n"
     ∷ []
 
 marked-right : all right marked ≡ true
-unfolding everything lite full packet struct lamp plain scalar payload optional refuses prints agrees right marked
+unfolding everything lite full packet struct lamp plain scalar payload optional refuses prints agrees right thirteen marked
 marked-right = refl
 
 -- ---- the other refusals, on both sides of their limits, and the faults that document 01 names
@@ -289,6 +296,108 @@ stated =
 stated-right : all right stated ≡ true
 unfolding everything lite packet struct lamp plain scalar payload optional refuses prints agrees right enum array sized before padded stated
 stated-right = refl
+
+-- ---- the head's line `trailing` (document 02, Card 3)
+
+-- as far as the expected lines go
+begins : Case → Bool
+begins c =
+    let l = lower (c .given) 65536 in
+    agrees (record { answered = l .answered; lines = take (length (c .expected .lines)) (l .lines) }) (c .expected)
+
+-- a payload up to so many bytes
+upTo : String → Text
+upTo n =
+    text "if (span.size() < " ++ (text n ++ (text ") return false;\npayload_ = span.subrange(0, span.size() - " ++ (text n ++ text ");\n")))
+
+-- this line, a struct S that may vary, a custom field C that does, and Lamp with these fields
+trailing : String → Text → Text
+trailing line fields =
+    lite ++ (text line ++ (struct "S" ++ (payload ++ (text "decl=custom\nname=C\nwidth=-\n" ++ (packet "Lamp" ++ fields)))))
+
+starts : Text → Text → Case
+starts rec lines = record { given = rec; expected = record { answered = 0; lines = lines } }
+
+-- these fields behind a payload, with the line absent, plain and padded: the bytes that they count
+counts : Text → String → String → List Case
+counts fields plainly padded =
+    starts (trailing "" (payload ++ fields)) (upTo plainly)
+    ∷ starts (trailing "trailing=plain\n" (payload ++ fields)) (upTo plainly)
+    ∷ starts (trailing "trailing=padded\n" (payload ++ fields)) (upTo padded)
+    ∷ []
+
+-- only padded they count something
+opens : Text → String → List Case
+opens fields padded =
+    refuses (trailing "" (payload ++ fields)) 14
+    ∷ refuses (trailing "trailing=plain\n" (payload ++ fields)) 14
+    ∷ starts (trailing "trailing=padded\n" (payload ++ fields)) (upTo padded)
+    ∷ []
+
+-- padded they count nothing either
+never : Text → List Case
+never fields = refuses (trailing "" (payload ++ fields)) 14 ∷ refuses (trailing "trailing=padded\n" (payload ++ fields)) 14 ∷ []
+
+padding : String → Text
+padding bytes = text "field=padding\nbytes=" ++ (text bytes ++ text "\nif=-\n")
+
+trails : List (List Case)
+trails =
+    -- alone, and between others
+    counts (array "8" "-" "2" ++ padding "8") "2" "8"
+    ∷ counts (scalar "z" "8" ++ (array "8" "-" "2" ++ (padding "8" ++ scalar "y" "16"))) "5" "11"
+    -- in place of the array's size, whatever that is: dynamic, unknown, unknown elements, larger
+    ∷ opens (plain "count\nof=v\nwidth=8" ++ (array "8" "-" "-" ++ padding "4")) "5"
+    ∷ opens (array "8" "-" "-" ++ padding "4") "4"
+    ∷ opens (array "-" "S" "2" ++ padding "4") "4"
+    ∷ counts (array "8" "-" "4" ++ padding "2") "4" "2"
+    -- only a padding just behind the array, and of two the first
+    ∷ counts (array "8" "-" "2" ++ (padding "3" ++ padding "8")) "2" "3"
+    ∷ counts (array "8" "-" "2" ++ (scalar "z" "8" ++ padding "8")) "3" "3"
+    -- bits are summed first
+    ∷ counts (scalar "a" "4" ++ (array "8" "-" "2" ++ (padding "8" ++ scalar "b" "4"))) "3" "9"
+    ∷ counts (array "8" "-" "2" ++ (padding "8" ++ scalar "b" "4")) "2" "8"
+    -- no array: a scalar, a typedef, a body
+    ∷ counts (scalar "z" "8" ++ padding "4") "1" "1"
+    ∷ never (plain "typedef\nid=t\ntype=C" ++ padding "4")
+    ∷ never (plain "body" ++ padding "4")
+    -- an optional array, an optional padding, no padding
+    ∷ never (text "field=array\nid=v\nwidth=8\ntype=-\nmod=-\ncount=2\nif=c\nis=1\n" ++ padding "4")
+    ∷ never (array "8" "-" "2" ++ text "field=padding\nbytes=4\nif=c\nis=1\n")
+    ∷ never (array "8" "-" "-")
+    ∷ []
+
+single : List Case
+single =
+    -- a padding of none: the payload takes all
+    starts (trailing "trailing=padded\n" (payload ++ (array "8" "-" "2" ++ padding "0"))) (text "payload_ = span;\nspan.clear();\n")
+    -- a typedef that may vary, and a payload with a size
+    ∷ starts (trailing "" (plain "typedef\nid=t\ntype=S" ++ (array "8" "-" "2" ++ padding "8"))) (text "if (span.size() < 2) return false;\n")
+    ∷ starts (trailing "trailing=padded\n" (plain "typedef\nid=t\ntype=S" ++ (array "8" "-" "2" ++ padding "8"))) (text "if (span.size() < 8) return false;\n")
+    ∷ starts (trailing "trailing=padded\n" (plain "size\nof=_payload_\nwidth=8" ++ (payload ++ array "8" "-" "-"))) (text "if (span.size() < 1) {\n")
+    -- more than 2 ^ 31 - 1 bits: 7 keeps the field sizes
+    ∷ starts
+    (lite
+    ++ (text "trailing=padded\n"
+    ++ (struct "S"
+    ++ (array "8" "-" "4096"
+    ++ (text "decl=custom\nname=C\nwidth=-\n"
+    ++ (packet "Lamp" ++ (plain "typedef\nid=c\ntype=C" ++ (payload ++ (array "-" "S" "65535" ++ (array "8" "-" "-" ++ padding "65535"))))))))))
+    (text "if (!C::Parse(span, &c_)) return false;\n" ++ upTo "268496895")
+    -- 2: another word, another place, twice, and a line of another request
+    ∷ refuses (trailing "trailing=Padded\n" []) 2
+    ∷ refuses (trailing "trailing=-\n" []) 2
+    ∷ refuses (trailing "trailing=\n" []) 2
+    ∷ refuses (text "endian=little\ntarget=Lamp\ntrailing=padded\narrays=lite\n" ++ packet "Lamp") 2
+    ∷ refuses (lamp (text "trailing=padded\n")) 2
+    ∷ refuses (trailing "trailing=padded\ntrailing=padded\n" []) 2
+    ∷ refuses (trailing "trailing=plain\ntrailing=padded\n" []) 2
+    ∷ refuses (trailing "raw=plain\n" []) 2
+    ∷ []
+
+trails-right : all (all begins) (single ∷ trails) ≡ true
+unfolding everything lite packet struct lamp plain scalar payload refuses agrees array begins upTo trailing starts counts opens never padding trails single
+trails-right = refl
 
 -- ---- 15, the word and the buffer: P3 has 81 bytes
 

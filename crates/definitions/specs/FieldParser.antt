@@ -5,7 +5,7 @@ use mathlib.Core.List.{List, [], _∷_, _++_}
 use Prim.Native.Nat.{ℕ, _+_, _/_, _%_}
 use lib.Dec.{ltb, eqb}
 use Rattle.definitions.specs.Bytes.{Text, text, pick, any, part}
-use Rattle.definitions.specs.Sizes.{Row, Annotated, enumOf, isBitfield, isPayloadId, hasPayloadSize, reference, sameName, elementSize, arraySize, staticWidth}
+use Rattle.definitions.specs.Sizes.{Row, Annotated, enumOf, isBitfield, isPayloadId, hasPayloadSize, reference, sameName, elementSize, arraySize, staticWidth, isArray, outerSize}
 use Rattle.definitions.specs.Blocks.{Kind, Bit, Chunk, shouldSkipValue, getCxxScalarType, Elem, Array, named, Block}
 use Rattle.definitions.specs.declared.EnumOf.{EnumOf}
 use Rattle.definitions.specs.declared.Part.{Part}
@@ -14,6 +14,7 @@ use Rattle.definitions.specs.declared.MaybeNumber.{MaybeNumber}
 use Rattle.definitions.specs.declared.Modifier.{Modifier}
 use Rattle.definitions.specs.declared.EndiannessValue.{EndiannessValue}
 use Rattle.definitions.specs.declared.Options.{Options}
+use Rattle.definitions.specs.declared.Trailing.{Trailing}
 use Rattle.definitions.specs.declared.FieldDesc.{FieldDesc}
 use Rattle.definitions.specs.declared.Cond.{Cond}
 use Rattle.definitions.specs.declared.Field.{Field}
@@ -28,7 +29,7 @@ pub record Setting : Type 0 where
   pub source : Text
   -- `scope`, and what is looked up in `schema`: the rows of the declarations before the target
   pub scope : List Row
-  -- the head's choices: `endianness`; `extract_arrays`, and so `target_prefix`
+  -- the head's choices: `endianness`; `extract_arrays`, and so `target_prefix`; what a padded array counts in a trailing size
   pub options : Options
   -- `decl.fields()`
   pub fields : List Field
@@ -184,17 +185,26 @@ pub data Emit : Type 0 where
 abbrev pub onBoundary : ℕ → Emit → Emit
 onBoundary shift next = elim (eqb shift 0) [ true ↦ next | false ↦ refuses Refusal.OctetBoundary ]
 
--- `get_trailing_size`: the bits of all later fields; none where one of them is not static
-unfoldable pub trailingFrom : ℕ → List Annotated → MaybeNumber
-trailingFrom sum [] = MaybeNumber.Some sum
-trailingFrom sum (a ∷ later) = elim (a .fieldSize) [
-  | Size.Static bits ↦ trailingFrom (sum + bits) later
+-- an array without a condition
+abbrev pub isArrayField : Field → Bool
+isArrayField f = elim (f .cond) [ Cond.None ↦ isArray (f .desc) | Cond.Some id value ↦ false ]
+
+-- what a later field counts: in cxx.rs its size. The language reference gives an array with a padding its padded size (document 02, Card 3)
+unfoldable pub laterSize : Trailing → Annotated → Size
+laterSize Trailing.Plain a = a .fieldSize
+laterSize Trailing.Padded a = pick (isArrayField (a .field)) (outerSize (a .fieldSize) (a .paddedSize)) (a .fieldSize)
+
+-- `get_trailing_size`: the bits that all later fields count; none where one of them is not static
+unfoldable pub trailingFrom : Trailing → ℕ → List Annotated → MaybeNumber
+trailingFrom m sum [] = MaybeNumber.Some sum
+trailingFrom m sum (a ∷ later) = elim (laterSize m a) [
+  | Size.Static bits ↦ trailingFrom m (sum + bits) later
   | Size.Dynamic ↦ MaybeNumber.None
   | Size.Unknown ↦ MaybeNumber.None
 ]
 
-abbrev pub getTrailingSize : List Annotated → MaybeNumber
-getTrailingSize later = trailingFrom 0 later
+abbrev pub getTrailingSize : Trailing → List Annotated → MaybeNumber
+getTrailingSize m later = trailingFrom m 0 later
 
 -- 14: a later field is not static
 abbrev pub onTrailing : MaybeNumber → (ℕ → Emit) → Emit
@@ -213,7 +223,7 @@ abbrev pub typedefBySize : Setting → Part → Part → List Annotated → Size
 typedefBySize c id type later (Size.Static bits) = appends (Block.nested (written c type) (member c id))
 typedefBySize c id type later Size.Dynamic = appends (Block.nested (written c type) (member c id))
 typedefBySize c id type later Size.Unknown =
-    onTrailing (getTrailingSize later) λ bits. appends (typedefBlock c id type bits)
+    onTrailing (getTrailingSize (c .options .trailing) later) λ bits. appends (typedefBlock c id type bits)
 
 unfoldable pub parseTypedefField : Setting → ℕ → Annotated → Part → Part → List Annotated → Emit
 parseTypedefField c shift a id type later = onBoundary shift (typedefBySize c id type later (a .fieldSize))
@@ -261,7 +271,7 @@ abbrev pub payloadBySize : Setting → Modifier → List Annotated → Bool → 
 payloadBySize c modifier later true =
     appends (Block.sizedPayload (payloadName c (text "_")) (payloadName c (text "_size_")) modifier)
 payloadBySize c modifier later false =
-    onTrailing (getTrailingSize later) λ bits. appends (unsizedPayload (payloadName c (text "_")) bits)
+    onTrailing (getTrailingSize (c .options .trailing) later) λ bits. appends (unsizedPayload (payloadName c (text "_")) bits)
 
 unfoldable pub parsePayloadFieldLite : Setting → ℕ → Modifier → List Annotated → Emit
 parsePayloadFieldLite c shift modifier later =

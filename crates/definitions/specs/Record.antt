@@ -32,6 +32,8 @@ use Rattle.definitions.specs.declared.MaybePartRead.{MaybePartRead}
 use Rattle.definitions.specs.declared.DescRead.{DescRead}
 use Rattle.definitions.specs.declared.CondRead.{CondRead}
 use Rattle.definitions.specs.declared.FieldRead.{FieldRead}
+use Rattle.definitions.specs.declared.Trailing.{Trailing}
+use Rattle.definitions.specs.declared.TrailingRead.{TrailingRead}
 use Rattle.definitions.specs.declared.HeadRead.{HeadRead}
 use Rattle.definitions.specs.declared.DeclRead.{DeclRead}
 
@@ -355,7 +357,7 @@ fieldAt s at =
 
 -- ---- the head and the declarations
 
--- the head's two choices
+-- the head's choices
 abbrev pub onEndian : {A : Type 0} → Text → ℕ → A → (EndiannessValue → ℕ → A) → A
 onEndian s at bad f =
     onFound (keyAt s at (text "endian=little\n"))
@@ -368,12 +370,25 @@ onArrays s at bad f =
     (onFound (keyAt s at (text "arrays=full\n")) bad λ p. f Arrays.Full p)
     λ p. f Arrays.Lite p
 
+-- document 02, Card 3: the line may be absent, and then it is `plain`. A line of another form is no declaration, and so 2
+unfoldable pub trailingAt : Text → ℕ → TrailingRead
+trailingAt s at =
+    onFound (keyAt s at (text "trailing=plain\n"))
+    (onFound (keyAt s at (text "trailing=padded\n")) (record { trailing = Trailing.Plain; next = at }) λ p.
+    record { trailing = Trailing.Padded; next = p })
+    λ p. record { trailing = Trailing.Plain; next = p }
+
+-- behind `arrays`
+abbrev pub headIs : EndiannessValue → Part → Arrays → TrailingRead → HeadRead
+headIs endianness target arrays t =
+    HeadRead.Is (record { options = record { endianness = endianness; arrays = arrays; trailing = t .trailing }; target = target }) (t .next)
+
 unfoldable pub headAt : Text → ℕ → HeadRead
 headAt s at =
     onEndian s at HeadRead.Wrong λ endianness p.
     onName (nameLine s p (text "target=")) HeadRead.Wrong λ target q.
     onArrays s q HeadRead.Wrong λ arrays r.
-    HeadRead.Is (record { options = record { endianness = endianness; arrays = arrays }; target = target }) r
+    headIs endianness target arrays (trailingAt s r)
 
 abbrev pub declIs : ℕ → Part → MaybeSize → DeclDesc → ℕ → DeclRead
 declIs at id bits desc p = DeclRead.Is (record { key = at; id = id; bits = bits; desc = desc }) p

@@ -218,6 +218,22 @@ isPayload (FieldDesc.Scalar id width) = false
 isPayload (FieldDesc.Flag id) = false
 isPayload (FieldDesc.Typedef id type) = false
 
+abbrev pub isArray : FieldDesc → Bool
+isArray (FieldDesc.Checksum of) = false
+isArray (FieldDesc.Padding size) = false
+isArray (FieldDesc.Size of width) = false
+isArray (FieldDesc.Count of width) = false
+isArray (FieldDesc.ElementSize of width) = false
+isArray FieldDesc.Body = false
+isArray (FieldDesc.Payload modifier) = false
+isArray (FieldDesc.FixedScalar width value) = false
+isArray (FieldDesc.FixedEnum type tag) = false
+isArray (FieldDesc.Reserved width) = false
+isArray (FieldDesc.Array id width type modifier size) = true
+isArray (FieldDesc.Scalar id width) = false
+isArray (FieldDesc.Flag id) = false
+isArray (FieldDesc.Typedef id type) = false
+
 -- what a field adds to its declaration: its padded size where it has one
 abbrev pub outerSize : Size → MaybeNumber → Size
 outerSize size MaybeNumber.None = size

@@ -38,10 +38,18 @@ pub enum Arrays {
     Full,
 }
 
+// What a padded array counts behind a payload: plain as cxx.rs has it, its field size; padded as the language reference has it, its padded size
+// (document 02, Card 3).
+pub enum Trailing {
+    Plain,
+    Padded,
+}
+
 // What the head chooses beside the target, handed on whole from the reader to the writer.
 pub struct Options {
     pub endianness: EndiannessValue,
     pub arrays: Arrays,
+    pub trailing: Trailing,
 }
 
 pub struct Head {
@@ -274,6 +282,12 @@ pub enum CondRead {
 pub enum FieldRead {
     Is(Field, usize),
     Wrong,
+}
+
+// The optional line `trailing` of the head, and the place behind it.
+pub struct TrailingRead {
+    pub trailing: Trailing,
+    pub next: usize,
 }
 
 pub enum HeadRead {

@@ -1,19 +1,25 @@
--- What refusal 7 says of the target's fields from one on: none of them is over the limit, nor is the sum of their static sizes.
+-- What refusal 7 says of the target's fields from one on: none of them is over the limit, nor is the sum of their static sizes, nor what one counts
+-- behind a payload.
 -- Assumes nothing.
 use lib.ListN.{getD}
 use Prim.Native.Nat.{ℕ, zero, suc, _+_, _*_, _≤_, _<_, _^_}
-use mathlib.Core.Bool.{false}
+use mathlib.Core.Bool.{Bool, true, false}
 use mathlib.Core.List.{List, _∷_}
 use mathlib.Core.Path.{_≡_, sym, ap, subst, _∙_}
 use native.Mathlib.Numerals.{add-one}
 use native.Mathlib.Omega.{arith}
 use borrow.Author.Tests.{ltb-false}
-use Rattle.definitions.specs.Bytes.{any}
-use Rattle.definitions.specs.Sizes.{Annotated, annotateField}
+use Rattle.definitions.specs.Bytes.{any, pick}
+use Rattle.definitions.specs.Sizes.{Annotated, annotateField, outerSize}
 use Rattle.definitions.specs.Refusals.{largeSize, tooLarge, badMaybe, largeField, staticSum}
+use Rattle.definitions.specs.FieldParser.{isArrayField, laterSize}
 use Rattle.definitions.specs.declared.Field.{Field}
+use Rattle.definitions.specs.declared.MaybeNumber.{MaybeNumber}
 use Rattle.definitions.specs.declared.Size.{Size}
+use Rattle.definitions.specs.declared.Trailing.{Trailing}
+use Rattle.bits.specs.Capped.{cappedNumber}
 use Rattle.bits.proofs.Booleans.{or-left, or-right}
+use Rattle.bits.proofs.Caps.{number-fine}
 use Rattle.tables.specs.Tables.{fieldHere, Tables, tablesOf, rowsOf, fieldsOf}
 use Rattle.emits.specs.Target.{restAt, annotatedAt, Fine}
 use Rattle.emits.proofs.Rests.{rest-step}
@@ -61,6 +67,21 @@ module _ (s rows values fields : List ℕ) (i n : ℕ) where
 
       pub padding-fine : badMaybe tooLarge (here j .paddedSize) ≡ false
       padding-fine = or-right (largeSize (here j .fieldSize)) (badMaybe tooLarge (here j .paddedSize)) large-here
+
+      -- what it counts behind a payload
+      pub later-fine : (m : Trailing) → largeSize (laterSize m (here j)) ≡ false
+      unfolding laterSize
+      later-fine Trailing.Plain = size-fine
+      later-fine Trailing.Padded = by (isArrayField (here j .field)) (here j .paddedSize) padding-fine
+        where
+          by : (b : Bool) (p : MaybeNumber) → badMaybe tooLarge p ≡ false → largeSize (pick b (outerSize (here j .fieldSize) p) (here j .fieldSize)) ≡ false
+          by true MaybeNumber.None e = size-fine
+          by true (MaybeNumber.Some bits) e = e
+          by false p e = size-fine
+
+      -- as the tables give it, capped
+      pub read-padding : {p : MaybeNumber} → p ≡ cappedNumber (here j .paddedSize) → p ≡ here j .paddedSize
+      read-padding e = e ∙ number-fine (here j .paddedSize) padding-fine
 
   -- a field as it is read at its place
   module _ (k : ℕ) {f : Field} (ef : f ≡ fieldHere values (getD fields (i * 64 + k) 0)) where

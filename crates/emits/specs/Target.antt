@@ -3,7 +3,7 @@
 use mathlib.Core.Bool.{false}
 use mathlib.Core.List.{List}
 use mathlib.Core.Path.{_≡_}
-use Prim.Native.Nat.{ℕ, _+_, _*_, _-_}
+use Prim.Native.Nat.{ℕ, _+_, _*_, _-_, _≤_}
 use lib.ListN.{getD}
 use Rattle.definitions.specs.Bytes.{any}
 use Rattle.definitions.specs.Sizes.{Annotated, annotateField, annotateFields, paddedBy}
@@ -34,7 +34,8 @@ module _ (t : Tables) (i n : ℕ) where
         paddedSize = paddedBy (fieldsFrom (t .values) (t .fields) (i * 64 + (k + 1)) (n - (k + 1)));
       }
 
-  -- behind refusal 7
+  -- behind refusals 3 and 7
   pub record Fine : Type 0 where
+    pub few : n ≤ 64
     pub sizes : any largeField (restAt 0) ≡ false
     pub sum : tooLarge (staticSum (restAt 0)) ≡ false

@@ -53,7 +53,7 @@ module _ (c : Setting) where
     -- ---- a field without a condition
 
     abbrev value : FieldDesc → EmitAt
-    value d = otherAt (c .source) (c .scope) (c .fields) a later (otherOf (c .options .endianness) d)
+    value d = otherAt (c .source) (c .scope) (c .fields) (c .options .trailing) a later (otherOf (c .options .endianness) d)
 
     pub others-agree : (d : FieldDesc) → emit (value d) ≡ parseOther c 0 a later d
     unfolding otherAt otherOf parseOther
@@ -84,6 +84,6 @@ module _ (c : Setting) where
     by-cond Cond.None = others-agree (a .field .desc)
     by-cond (Cond.Some id is) = optionals-agree id is (a .field .desc)
 
-    pub unchecked-agree : emit (uncheckedAt (c .source) (c .scope) (c .fields) (c .options .endianness) a later) ≡ parseUnchecked c 0 a later
+    pub unchecked-agree : emit (uncheckedAt (c .source) (c .scope) (c .fields) (c .options) a later) ≡ parseUnchecked c 0 a later
     unfolding uncheckedAt parseUnchecked
     unchecked-agree = by-cond (a .field .cond)

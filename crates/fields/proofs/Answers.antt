@@ -9,14 +9,13 @@ use lib.ListN.{getD}
 use Rattle.definitions.specs.Bytes.{Text, text}
 use Rattle.definitions.specs.Sizes.{Row, Annotated, enumOf, hasPayloadSize, descSize}
 use Rattle.definitions.specs.Refusals.{largeSize}
-use Rattle.definitions.specs.FieldParser.{Setting, getTrailingSize, sizeBacking, parseUnchecked}
+use Rattle.definitions.specs.FieldParser.{getTrailingSize, sizeBacking, parseUnchecked}
 use Rattle.definitions.specs.declared.EnumOf.{EnumOf}
-use Rattle.definitions.specs.declared.Arrays.{Arrays}
 use Rattle.definitions.specs.declared.Cond.{Cond}
-use Rattle.definitions.specs.declared.EndiannessValue.{EndiannessValue}
 use Rattle.definitions.specs.declared.Field.{Field}
 use Rattle.definitions.specs.declared.FieldDesc.{FieldDesc}
 use Rattle.definitions.specs.declared.Modifier.{Modifier}
+use Rattle.definitions.specs.declared.Options.{Options}
 use Rattle.definitions.specs.declared.Part.{Part}
 use Rattle.definitions.specs.declared.Size.{Size}
 use Rattle.emits.specs.BlockOf.{emitOf, EmitFits}
@@ -57,27 +56,27 @@ optional-fits s rows cond value (FieldDesc.Typedef id type) = by (enumOf s rows 
 
 -- ---- an array that is not over the limit fits too
 
-module _ (s : Text) (rows : List Row) (fs : List Field) (order : EndiannessValue) (a : Annotated) (later : List Annotated) where
-  other-fits : (d : FieldDesc) → largeSize (descSize s rows fs d) ≡ false → EmitFits (otherAt s rows fs a later (otherOf order d))
+module _ (s : Text) (rows : List Row) (fs : List Field) (o : Options) (a : Annotated) (later : List Annotated) where
+  other-fits : (d : FieldDesc) → largeSize (descSize s rows fs d) ≡ false → EmitFits (otherAt s rows fs (o .trailing) a later (otherOf (o .endianness) d))
   unfolding otherAt otherOf descSize
   other-fits (FieldDesc.Checksum of) h = tt
   other-fits (FieldDesc.Padding bytes) h = tt
   other-fits (FieldDesc.Size of width) h = tt
   other-fits (FieldDesc.Count of width) h = tt
   other-fits (FieldDesc.ElementSize of width) h = tt
-  other-fits FieldDesc.Body h = payload-fits Modifier.None (hasPayloadSize s fs) (getTrailingSize later)
-  other-fits (FieldDesc.Payload modifier) h = payload-fits modifier (hasPayloadSize s fs) (getTrailingSize later)
+  other-fits FieldDesc.Body h = payload-fits Modifier.None (hasPayloadSize s fs) (getTrailingSize (o .trailing) later)
+  other-fits (FieldDesc.Payload modifier) h = payload-fits modifier (hasPayloadSize s fs) (getTrailingSize (o .trailing) later)
   other-fits (FieldDesc.FixedScalar width value) h = tt
   other-fits (FieldDesc.FixedEnum type tag) h = tt
   other-fits (FieldDesc.Reserved width) h = tt
   other-fits (FieldDesc.Array id width type modifier count) h = array-fits s rows fs (a .paddedSize) _ h
   other-fits (FieldDesc.Scalar id width) h = tt
   other-fits (FieldDesc.Flag id) h = tt
-  other-fits (FieldDesc.Typedef id type) h = typedef-fits id type (getTrailingSize later) (a .fieldSize)
+  other-fits (FieldDesc.Typedef id type) h = typedef-fits id type (getTrailingSize (o .trailing) later) (a .fieldSize)
 
 -- ---- field k
 
-module _ (s rows values fields : List ℕ) (i n k : ℕ) (order : EndiannessValue) where
+module _ (s rows values fields : List ℕ) (i n k : ℕ) (o : Options) where
   abbrev tables : Tables
   tables = tablesOf s rows values fields
 
@@ -93,14 +92,11 @@ module _ (s rows values fields : List ℕ) (i n k : ℕ) (order : EndiannessValu
   abbrev later : List Annotated
   later = restAt tables i n (k + 1)
 
-  abbrev setting : Arrays → Setting
-  setting m = settingAt tables i n (record { endianness = order; arrays = m })
-
   abbrev answer : EmitAt
-  answer = parsedAt tables i n k order
+  answer = parsedAt tables i n k o
 
   abbrev other : FieldDesc → EmitAt
-  other d = otherAt s scope fs here later (otherOf order d)
+  other d = otherAt s scope fs (o .trailing) here later (otherOf (o .endianness) d)
 
   abbrev valueBy : Field → Cond → EmitAt
   valueBy f cond = elim cond [ Cond.None ↦ other (f .desc) | Cond.Some id value ↦ optionalAt s scope id value (f .desc) ]
@@ -117,19 +113,21 @@ module _ (s rows values fields : List ℕ) (i n k : ℕ) (order : EndiannessValu
         → r ≡ optionalAt s scope id value (f .desc) → r ≡ answer
     parsed-optional e h = h ∙ chosen ef e
 
-    pub parsed-other : f .cond ≡ Cond.None → {o : Other} → o ≡ otherOf order (f .desc) → r ≡ otherAt s scope fs here later o → r ≡ answer
-    parsed-other e eo h = h ∙ ap (otherAt s scope fs here later) eo ∙ chosen ef e
+    pub parsed-other : f .cond ≡ Cond.None → {x : Other} → x ≡ otherOf (o .endianness) (f .desc)
+        → r ≡ otherAt s scope fs (o .trailing) here later x → r ≡ answer
+    parsed-other e ex h = h ∙ ap (otherAt s scope fs (o .trailing) here later) ex ∙ chosen ef e
 
-  -- ---- what it stands for: the definitions' `parseUnchecked`, in both modes
+  -- ---- what it stands for: the definitions' `parseUnchecked`
 
-  pub answer-agrees : (m : Arrays) → emitOf s (text "payload") order m (λ id. sizeBacking s id fs) answer ≡ parseUnchecked (setting m) 0 here later
-  answer-agrees m = unchecked-agree (setting m) here later
+  pub answer-agrees : emitOf s (text "payload") (o .endianness) (o .arrays) (λ id. sizeBacking s id fs) answer
+      ≡ parseUnchecked (settingAt tables i n o) 0 here later
+  answer-agrees = unchecked-agree (settingAt tables i n o) here later
 
   -- ---- its numbers fit
 
   module _ (fine : Fine tables i n) (w : k < n) where
     fits-by : (cond : Cond) → here .field .cond ≡ cond → EmitFits (valueBy (here .field) cond)
-    fits-by Cond.None e = other-fits s scope fs order here later (here .field .desc) plain
+    fits-by Cond.None e = other-fits s scope fs o here later (here .field .desc) plain
       where
         plain : largeSize (descSize s scope fs (here .field .desc)) ≡ false
         plain =

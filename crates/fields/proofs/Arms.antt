@@ -16,6 +16,7 @@ use Rattle.definitions.specs.declared.FieldDesc.{FieldDesc}
 use Rattle.definitions.specs.declared.Modifier.{Modifier}
 use Rattle.definitions.specs.declared.Part.{Part}
 use Rattle.definitions.specs.declared.Refusal.{Refusal}
+use Rattle.definitions.specs.declared.Trailing.{Trailing}
 use Rattle.definitions.proofs.FieldDesc as desc
 use Rattle.emits.specs.declared.BlockAt.{BlockAt}
 use Rattle.emits.specs.declared.EmitAt.{EmitAt}
@@ -105,25 +106,25 @@ other-silent order (FieldDesc.Scalar id width) h = refl
 other-silent order (FieldDesc.Flag id) h = refl
 other-silent order (FieldDesc.Typedef id type) h = absurd (miss silent 13 tt h)
 
-module _ (s : Text) (rows : List Row) (fs : List Field) (here : Annotated) (later : List Annotated) {o : Other} where
-  given-as : {c : Other} {r : EmitAt} → o ≡ c → r ≡ otherAt s rows fs here later c → r ≡ otherAt s rows fs here later o
-  given-as e h = h ∙ ap (otherAt s rows fs here later) (sym e)
+module _ (s : Text) (rows : List Row) (fs : List Field) (m : Trailing) (here : Annotated) (later : List Annotated) {o : Other} where
+  given-as : {c : Other} {r : EmitAt} → o ≡ c → r ≡ otherAt s rows fs m here later c → r ≡ otherAt s rows fs m here later o
+  given-as e h = h ∙ ap (otherAt s rows fs m here later) (sym e)
 
-  pub given-silent : o ≡ Other.Silent → EmitAt.Silent ≡ otherAt s rows fs here later o
+  pub given-silent : o ≡ Other.Silent → EmitAt.Silent ≡ otherAt s rows fs m here later o
   unfolding otherAt
   given-silent e = given-as e refl
 
   pub given-payload : {modifier : Modifier} → o ≡ Other.Payload modifier
-      → {r : EmitAt} → r ≡ payloadAt modifier (hasPayloadSize s fs) (getTrailingSize later) → r ≡ otherAt s rows fs here later o
+      → {r : EmitAt} → r ≡ payloadAt modifier (hasPayloadSize s fs) (getTrailingSize m later) → r ≡ otherAt s rows fs m here later o
   unfolding otherAt
   given-payload e h = given-as e h
 
   pub given-array : {array : ArrayField} → o ≡ Other.Array array
-      → {b : BlockAt} → b ≡ arrayAt s rows fs (here .paddedSize) array → EmitAt.Appends b ≡ otherAt s rows fs here later o
+      → {b : BlockAt} → b ≡ arrayAt s rows fs (here .paddedSize) array → EmitAt.Appends b ≡ otherAt s rows fs m here later o
   unfolding otherAt
   given-array e h = given-as e (ap (λ (b : BlockAt). EmitAt.Appends b) h)
 
   pub given-typedef : {typedef : TypedefParts} → o ≡ Other.Typedef typedef
-      → {r : EmitAt} → r ≡ typedefAt (typedef .id) (typedef .«type_id») (getTrailingSize later) (here .fieldSize) → r ≡ otherAt s rows fs here later o
+      → {r : EmitAt} → r ≡ typedefAt (typedef .id) (typedef .«type_id») (getTrailingSize m later) (here .fieldSize) → r ≡ otherAt s rows fs m here later o
   unfolding otherAt
   given-typedef e h = given-as e h

@@ -12,6 +12,8 @@ use Rattle.definitions.specs.declared.EndiannessValue.{EndiannessValue}
 use Rattle.definitions.specs.declared.Field.{Field}
 use Rattle.definitions.specs.declared.FieldDesc.{FieldDesc}
 use Rattle.definitions.specs.declared.Modifier.{Modifier}
+use Rattle.definitions.specs.declared.Options.{Options}
+use Rattle.definitions.specs.declared.Trailing.{Trailing}
 use Rattle.definitions.specs.declared.Part.{Part}
 use Rattle.definitions.specs.declared.Refusal.{Refusal}
 use Rattle.emits.specs.declared.BlockAt.{BlockAt}
@@ -67,16 +69,16 @@ otherOf order (FieldDesc.Flag id) = Other.Silent
 otherOf order (FieldDesc.Typedef id type) = Other.Typedef (record { id = id; «type_id» = type })
 
 -- `here` is the field with its sizes, `later` are the fields behind it
-unfoldable pub otherAt : Text → List Row → List Field → Annotated → List Annotated → Other → EmitAt
-otherAt s rows fs here later Other.Silent = EmitAt.Silent
-otherAt s rows fs here later (Other.Payload modifier) = payloadAt modifier (hasPayloadSize s fs) (getTrailingSize later)
-otherAt s rows fs here later (Other.Array array) = EmitAt.Appends (arrayAt s rows fs (here .paddedSize) array)
-otherAt s rows fs here later (Other.Typedef typedef) = typedefAt (typedef .id) (typedef .«type_id») (getTrailingSize later) (here .fieldSize)
+unfoldable pub otherAt : Text → List Row → List Field → Trailing → Annotated → List Annotated → Other → EmitAt
+otherAt s rows fs m here later Other.Silent = EmitAt.Silent
+otherAt s rows fs m here later (Other.Payload modifier) = payloadAt modifier (hasPayloadSize s fs) (getTrailingSize m later)
+otherAt s rows fs m here later (Other.Array array) = EmitAt.Appends (arrayAt s rows fs (here .paddedSize) array)
+otherAt s rows fs m here later (Other.Typedef typedef) = typedefAt (typedef .id) (typedef .«type_id») (getTrailingSize m later) (here .fieldSize)
 
 -- ---- a field that is no bit field, by its condition
 
-unfoldable pub uncheckedAt : Text → List Row → List Field → EndiannessValue → Annotated → List Annotated → EmitAt
-uncheckedAt s rows fs order here later = elim (here .field .cond) [
-  | Cond.None ↦ otherAt s rows fs here later (otherOf order (here .field .desc))
+unfoldable pub uncheckedAt : Text → List Row → List Field → Options → Annotated → List Annotated → EmitAt
+uncheckedAt s rows fs o here later = elim (here .field .cond) [
+  | Cond.None ↦ otherAt s rows fs (o .trailing) here later (otherOf (o .endianness) (here .field .desc))
   | Cond.Some id value ↦ optionalAt s rows id value (here .field .desc)
 ]

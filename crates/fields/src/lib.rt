@@ -7,8 +7,10 @@ use definitions::EndiannessValue;
 use definitions::EnumOf;
 use definitions::FieldDesc;
 use definitions::Modifier;
+use definitions::Options;
 use definitions::Part;
 use definitions::Refusal;
+use definitions::Trailing;
 use emits::BlockAt;
 use emits::EmitAt;
 use trailing::TypedefParts;
@@ -147,24 +149,35 @@ fn parse_other(
     i: usize,
     n: usize,
     k: usize,
+    trailing: Trailing,
     other: Other,
 ) -> EmitAt
     requires { ⌜ k < n ⌝ }
     requires { let t : Tables = tablesOf (now rec) (now rows) (now values) (now fields) in ⌜ Fine t i n ⌝ }
     ensures { λ r. let t : Tables = tablesOf (now (rec .entry)) (now (rows .entry)) (now (values .entry)) (now (fields .entry)) in
-        ⌜ r ≡ otherAt (t .source) (rowsOf t i) (fieldsOf t i n) (annotatedAt t i n k) (restAt t i n (k + 1)) other ⌝ }
+        ⌜ r ≡ otherAt (t .source) (rowsOf t i) (fieldsOf t i n) trailing (annotatedAt t i n k) (restAt t i n (k + 1)) other ⌝ }
 {
     match other {
         Other::Silent => EmitAt::Silent,
         Other::Payload(modifier) => {
-            trailing::parse_payload_field_lite(rec, rows, values, fields, i, n, k, modifier)
+            trailing::parse_payload_field_lite(
+                rec,
+                rows,
+                values,
+                fields,
+                i,
+                n,
+                k,
+                trailing,
+                modifier,
+            )
         }
         Other::Array(array) => {
             let block = array_fields::parse_array_field(rec, rows, values, fields, i, n, k, array);
             EmitAt::Appends(block)
         }
         Other::Typedef(typedef) => {
-            trailing::parse_typedef_field(rec, rows, values, fields, i, n, k, typedef)
+            trailing::parse_typedef_field(rec, rows, values, fields, i, n, k, trailing, typedef)
         }
     }
 }
@@ -178,20 +191,22 @@ pub fn parse_unchecked(
     i: usize,
     n: usize,
     k: usize,
-    endianness: EndiannessValue,
+    options: Options,
 ) -> EmitAt
     requires { ⌜ k < n ⌝ }
     requires { let t : Tables = tablesOf (now rec) (now rows) (now values) (now fields) in ⌜ Fine t i n ⌝ }
     ensures { λ r. let t : Tables = tablesOf (now (rec .entry)) (now (rows .entry)) (now (values .entry)) (now (fields .entry)) in
-        ⌜ r ≡ parsedAt t i n k endianness ⌝ }
+        ⌜ r ≡ parsedAt t i n k options ⌝ }
 {
     let f = references::field_in(values, fields, i, k);
     let cond = f.cond;
     let desc = f.desc;
     match cond {
         Cond::None => {
+            let endianness = options.endianness;
+            let trailing = options.trailing;
             let other = other_of(endianness, desc);
-            parse_other(rec, rows, values, fields, i, n, k, other)
+            parse_other(rec, rows, values, fields, i, n, k, trailing, other)
         }
         Cond::Some { id, value } => parse_optional_field(rec, rows, i, id, value, desc),
     }

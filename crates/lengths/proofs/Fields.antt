@@ -109,7 +109,7 @@ module _ (c : Setting) where
   typedef-fits id type later (Size.Static n) h k = nested-short (member c id) (member-short id h) (written c type) k
   typedef-fits id type later Size.Dynamic h k = nested-short (member c id) (member-short id h) (written c type) k
   typedef-fits id type later Size.Unknown h k =
-      trailing-fits plainField (getTrailingSize later) _
+      trailing-fits plainField (getTrailingSize (c .options .trailing) later) _
       (λ n. pick-within plainField (ltb 0 n) _ _
       (nested-up-to (member c id) (member-short id h) (written c type) k (written c id) (n / 8) h)
       (nested-short (member c id) (member-short id h) (written c type) k))
@@ -127,7 +127,7 @@ module _ (c : Setting) where
       by : (b : Bool) → EmitFits plainField (payloadBySize c m later b)
       by true = sized-payload (payloadName c (text "_")) (payloadName c (text "_size_")) m x (omega (arith, payload-length (text "_size_")))
       by false =
-          trailing-fits plainField (getTrailingSize later) _
+          trailing-fits plainField (getTrailingSize (c .options .trailing) later) _
           (λ n. pick-within plainField (ltb 0 n) _ _ (payload-up-to (payloadName c (text "_")) x (n / 8)) (payload-to-end (payloadName c (text "_")) x))
 
   optional-typedef : (cond : Part) (v : ℕ) (id type : Part) (e : EnumOf) → Named cond → Named id → Named type

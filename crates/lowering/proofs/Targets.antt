@@ -28,7 +28,7 @@ use Rattle.sizes.specs.declared.Sizing.{Sizing}
 use Rattle.sizes.proofs.Targets.{lower-target}
 use Rattle.sizes.proofs.Fine.{entry-fine}
 use Rattle.emits.specs.Target.{settingAt, restAt, Fine}
-use Rattle.lowering.specs.Steps.{Answers, Few, Ready, lowerSized}
+use Rattle.lowering.specs.Steps.{Answers, Few, lowerSized}
 use Rattle.lowering.proofs.Passes.{refuses-all}
 
 -- ---- what `check_sizes` answers
@@ -133,8 +133,9 @@ module _ (s : Text) (h : Head) (before v f : List ℕ) (n : ℕ) (rows : List �
     not-large : largeEntry entry ≡ false
     not-large = entry-fine s rows v f n i target-within (ap large same ∙ is-chosen .0)
 
-    target-fine : {m : ℕ} → m ≡ count → Fine tables i m
-    target-fine e = subst (λ (m : ℕ). Fine tables i m) (sym e) (record {
+    pub target-fine : Few before n → {m : ℕ} → m ≡ count → Fine tables i m
+    target-fine few e = subst (λ (m : ℕ). Fine tables i m) (sym e) (record {
+      few = omega (arith, few .fields i target-within, ap (λ (l : List ℕ). countHere l i) (k .left), count-left s before v f 0 n i);
       sizes =
           ap (any largeField) rest-all
           ∙ or-left (any largeField (entry .fields)) (largeRow (entry .row))
@@ -158,9 +159,3 @@ module _ (s : Text) (h : Head) (before v f : List ℕ) (n : ℕ) (rows : List �
     target-answers {m} e {out} {left} {r} a =
         subst (λ (o : Outcome). Answers o out r left) target-lowered
         (subst (λ (m : ℕ). Answers (lowerFields (settingAt tables i m (h .options)) (restAt tables i m 0)) out r left) e a)
-
-    pub target-ready : Few before n → {m : ℕ} → m ≡ count → Ready tables i m
-    target-ready few e = record {
-      fine = target-fine e;
-      short = omega (arith, few .fields i target-within, e, ap (λ (l : List ℕ). countHere l i) (k .left), count-left s before v f 0 n i);
-    }

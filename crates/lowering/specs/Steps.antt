@@ -13,8 +13,7 @@ use Rattle.definitions.specs.declared.Verdict.{Verdict}
 use Rattle.plans.specs.Told.{Told}
 use Rattle.sizes.specs.Answers.{checkSizes}
 use Rattle.sizes.specs.declared.Sizing.{Sizing}
-use Rattle.tables.specs.Tables.{countHere, Tables}
-use Rattle.emits.specs.Target.{Fine}
+use Rattle.tables.specs.Tables.{countHere}
 
 -- the number and the buffer for an outcome: 15 on top
 pub record Answers (o : Outcome) (out : Text) (r : ℕ) (left : Text) : Type 0 where
@@ -38,8 +37,3 @@ lowerSized s h schema = elim (checkSizes s h schema) [ Sizing.Target i ↦ lower
 pub record Few (rows : List ℕ) (n : ℕ) : Type 0 where
   pub declarations : n ≤ 32
   pub fields : (i : ℕ) → i < n → countHere rows i ≤ 64
-
--- behind refusals 3 and 7: the target, of n fields
-pub record Ready (t : Tables) (i n : ℕ) : Type 0 where
-  pub short : n ≤ 64
-  pub fine : Fine t i n

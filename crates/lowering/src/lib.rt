@@ -20,10 +20,10 @@ ghost use Rattle.definitions.specs.declared.Part.{Part};
 ghost use Rattle.stream.specs.Stream.{fresh};
 ghost use Rattle.tables.specs.Tables.{declarationsFrom, Tables, tablesOf};
 ghost use Rattle.record.specs.Reader.{valuesRoom};
-ghost use Rattle.emits.specs.Target.{settingAt, restAt};
+ghost use Rattle.emits.specs.Target.{settingAt, restAt, Fine};
 ghost use Rattle.plans.specs.Told.{tell};
 ghost use Rattle.plans.specs.Plans.{plansFrom, Sound};
-ghost use Rattle.lowering.specs.Steps.{Answers, AnswersTold, Few, Ready, lowerSized};
+ghost use Rattle.lowering.specs.Steps.{Answers, AnswersTold, Few, lowerSized};
 
 // ---- the lines
 
@@ -60,7 +60,7 @@ fn write_lines(
     i: usize,
     n: usize,
 ) -> u64
-    requires { let t : Tables = tablesOf (now rec) (now rows) (now values) (now fields) in ⌜ Ready t i n ⌝ }
+    requires { let t : Tables = tablesOf (now rec) (now rows) (now values) (now fields) in ⌜ Fine t i n ⌝ }
     ensures { λ r. let t : Tables = tablesOf (now (rec .entry)) (now (rows .entry)) (now (values .entry)) (now (fields .entry)) in
         ⌜ Answers (lowerFields (settingAt t i n options) (restAt t i n 0)) (now (out .entry)) r (now (out .exit)) ⌝ }
 {

@@ -272,7 +272,7 @@ typedef-ok : (c : Setting) (id type : Part) (later : List Annotated) (z : Size) 
 typedef-ok c id type later (Size.Static n) = (tt, (refl, λ o. tt))
 typedef-ok c id type later Size.Dynamic = (tt, (refl, λ o. tt))
 typedef-ok c id type later Size.Unknown =
-    trailing-ok (getTrailingSize later) _ (λ n. pick-ok (ltb 0 n) _ _ (tt, (refl, λ o. tt)) (tt, (refl, λ o. tt)))
+    trailing-ok (getTrailingSize (c .options .trailing) later) _ (λ n. pick-ok (ltb 0 n) _ _ (tt, (refl, λ o. tt)) (tt, (refl, λ o. tt)))
 
 enum-ok : (c : Setting) (cond : Part) (v : ℕ) (id type : Part) (e : EnumOf) → Other (optionalTypedef c cond v id type e)
 enum-ok c cond v id type (EnumOf.Enum w isOpen isComplete) = pick-ok isOpen _ _ (tt, (refl, λ o. tt)) (tt, (refl, λ o. tt))
@@ -295,15 +295,15 @@ optional-ok c cond v (FieldDesc.Scalar id width) = (tt, (refl, λ o. tt))
 optional-ok c cond v (FieldDesc.Flag id) = tt
 optional-ok c cond v (FieldDesc.Typedef id type) = enum-ok c cond v id type (enumOf (c .source) (c .scope) type)
 
-payload-span : (m : Arrays) → Apart (named m (text "payload") (text "_")) span
+pub payload-span : (m : Arrays) → Apart (named m (text "payload") (text "_")) span
 payload-span Arrays.Lite = apart-ends (text "payload") (text "_") (text "spa") (text "n") refl refl
 payload-span Arrays.Full = apart-ends (text "output->payload") (text "_") (text "spa") (text "n") refl refl
 
 sized-ok : (c : Setting) (m : Modifier) (later : List Annotated) (b : Bool) → EmitOk (payloadBySize c m later b)
 sized-ok c m later true = (payload-span (c .options .arrays), (refl, λ o. tt))
 sized-ok c m later false =
-    trailing-ok (getTrailingSize later) _
-    (λ n. pick-ok (ltb 0 n) _ _ (payload-span (c .options .arrays), (refl, λ o. tt)) (tt, (refl, λ o. tt)))
+    trailing-ok (getTrailingSize (c .options .trailing) later) _
+    (λ n. pick-ok (ltb 0 n) _ _ (payload-span (c .options .arrays), (refl, λ o. tt)) (payload-span (c .options .arrays), (refl, λ o. tt)))
 
 payload-ok : (c : Setting) (shift : ℕ) (m : Modifier) (later : List Annotated) → EmitOk (parsePayloadFieldLite c shift m later)
 unfolding parsePayloadFieldLite

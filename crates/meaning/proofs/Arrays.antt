@@ -22,7 +22,7 @@ use Rattle.meaning.proofs.Pieces.{Sizeless, sizeless-operands, known, p
 
 -- ---- names
 
-x-span : (id : Text) → Apart (named Arrays.Lite id (text "_")) span
+pub x-span : (id : Text) → Apart (named Arrays.Lite id (text "_")) span
 x-span id = apart-ends id (text "_") (text "spa") (text "n") refl refl
 
 pub own-span : (id : Text) → Apart (bare id (text "_span")) span
@@ -32,7 +32,7 @@ own-span id = apart-length (bare id (text "_span")) span (λ e. omega (arith, e,
 ends-in : (a s id b t : Text) → length s ≡ length t → Apart s t → Apart (a ++ s) (id ++ (b ++ t))
 ends-in a s id b t e n = subst (λ (u : Text). Apart (a ++ s) u) (append-assoc id b t) (apart-ends a s (id ++ b) t e n)
 
-raw-start : (id : Text) → Apart raw (startName id)
+pub raw-start : (id : Text) → Apart raw (startName id)
 raw-start id = ends-in (text "raw_val") (text "ue") id (text "_start_si") (text "ze") refl refl
 
 raw-count : (m : Arrays) (id : Text) → Apart raw (named m id (text "_count_"))
@@ -43,7 +43,7 @@ raw-count m id =
 raw-own : (id : Text) → Apart raw (bare id (text "_count_"))
 raw-own id = ends-in (text "raw_valu") (text "e") id (text "_count") (text "_") refl refl
 
-own-start : (id : Text) → Apart (bare id (text "_count_")) (startName id)
+pub own-start : (id : Text) → Apart (bare id (text "_count_")) (startName id)
 own-start id =
     subst (λ (u : Text). Apart u (startName id)) (append-assoc id (text "_count") (text "_"))
     (ends-in (id ++ text "_count") (text "_") id (text "_start_siz") (text "e") refl refl)

@@ -3,7 +3,7 @@
 -- (specs/Places).
 -- Assumes nothing.
 use mathlib.Core.Bool.{true}
-use mathlib.Core.List.{List, [], _∷_, _++_}
+use mathlib.Core.List.{List, _++_}
 use mathlib.Core.Option.{some}
 use mathlib.Core.Path.{_≡_, subst}
 use Prim.Native.Nat.{ℕ, _+_, _*_, _/_, _^_, _<_}
@@ -22,6 +22,7 @@ use Rattle.meaning.specs.Places.{BitField, ChunkOf, atField, Given}
 use Rattle.meaning.proofs.Safe.{never, plain-next}
 use Rattle.meaning.proofs.Wellformed.{BlocksOk}
 use Rattle.meaning.proofs.Frame.{inside}
+use Rattle.meaning.proofs.Whole.{later-ok}
 use Rattle.meaning.proofs.Entries.{has-grounds}
 use Rattle.meaning.proofs.Accepted.{blocks-ok}
 use Rattle.meaning.proofs.Grouped.{shaped}
@@ -59,10 +60,6 @@ pub record Demand3 (s : Text) (bs : List Block) : Type 0 where
       → (τ .spans span ≡ drop (r .number) (σ .spans span)) × (τ .readAndSkipped ≡ σ .readAndSkipped + r .number)
   -- And a run of the lines that has come behind a checked run, now or at an earlier step, has run it to its end.
   pub behind-is-ended : (r : CheckedRun bs) (σ : State) (k : ℕ) → ComeTo (behindRun r) bs σ k → RunToItsEnd bs r σ k
-
-later-ok : (pre post : List Block) → BlocksOk (pre ++ post) → BlocksOk post
-later-ok [] post h = h
-later-ok (b ∷ pre) post h = later-ok pre post (h .1)
 
 -- For every record that is accepted.
 pub demand-3 : (s : Text) (bs : List Block) → answer s ≡ accepted bs → Demand3 s bs

@@ -9,7 +9,7 @@ use Rattle.definitions.specs.Bytes.{Text, pick, same}
 use Rattle.definitions.specs.Lines.{Stmt}
 use Rattle.definitions.specs.Blocks.{span}
 use Rattle.meaning.specs.Machine.{Inside, Reply, State, start, putSpan, running, run}
-use Rattle.meaning.proofs.Steps.{Closed, on-run}
+use Rattle.meaning.proofs.Steps.{Closed, Any, any-set, on-run}
 
 part-take : (f s : List ℕ) (n : ℕ) → Inside f s → Inside f (take n s)
 part-take f s n h = (
@@ -44,14 +44,14 @@ module _ (f : List ℕ) where
       go true = p
       go false = h y
 
-  parts-kept : Closed Parts
+  parts-kept : Closed Any Parts
   parts-kept =
       record {
-        var = λ σ x n p. p;
+        var = λ σ x n _ p. p;
         turns = λ σ n p. p;
         replies = λ σ l p. p;
-        copy = λ σ x s p. put-part σ x (σ .spans s) p (p s);
-        part = λ σ x s at n p. put-part σ x (take n (drop at (σ .spans s))) p (part-take f _ n (part-drop f (σ .spans s) at (p s)));
+        copy = λ σ x s _ p. put-part σ x (σ .spans s) p (p s);
+        part = λ σ x s at n _ p. put-part σ x (take n (drop at (σ .spans s))) p (part-take f _ n (part-drop f (σ .spans s) at (p s)));
         rest = λ σ s n p. put-part σ s (drop n (σ .spans s)) p (part-drop f (σ .spans s) n (p s));
         front = λ σ s n p. put-part σ s (drop n (σ .spans s)) p (part-drop f (σ .spans s) n (p s));
         clear = λ σ s p. put-part σ s [] p (part-none f);
@@ -67,4 +67,4 @@ module _ (f : List ℕ) where
   -- however many lines have run, each span is a part of the frame
   pub inside : (vars : Text → ℕ) (replies : List Reply) (k : ℕ) (l r : List Stmt) (τ : State)
       → run k (start f vars replies) l ≡ running τ r → (x : Text) → Inside f (τ .spans x)
-  inside vars replies k l r τ e = on-run Parts parts-kept k (start f vars replies) τ l r (started vars replies) e
+  inside vars replies k l r τ e = on-run Any Parts parts-kept k (start f vars replies) τ l r (any-set l) (started vars replies) e

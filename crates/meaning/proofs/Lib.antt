@@ -1,5 +1,6 @@
 -- Demands is to be read first; the others follow from the statements down. What each holds is said in its first lines.
 pub mod Demands
+pub mod Payloads
 pub mod Cases
 pub mod Forms
 pub mod Outside
@@ -18,6 +19,11 @@ pub mod ChunkNames
 pub mod Values
 pub mod FieldBits
 pub mod Whole
+pub mod Padding
+pub mod Ends
+pub mod Sets
+pub mod Later
+pub mod Placing
 pub mod Frame
 pub mod Passing
 pub mod Steps

@@ -18,7 +18,7 @@ pub same-self : (x : Text) → same x x ≡ true
 same-self [] = refl
 same-self (a ∷ x) = rw (same-self x, eq-eqb a a refl)
 
-same-eq : (x y : Text) → same x y ≡ true → x ≡ y
+pub same-eq : (x y : Text) → same x y ≡ true → x ≡ y
 same-eq [] [] e = refl
 same-eq [] (b ∷ y) e = impossible (cc)
 same-eq (a ∷ x) [] e = impossible (cc)
@@ -34,6 +34,14 @@ apart-by x y n = go (same x y) refl
     go : (t : Bool) → same x y ≡ t → t ≡ false
     go true e = absurd (n (same-eq x y e))
     go false e = refl
+
+pub apart-swap : (x y : Text) → Apart x y → Apart y x
+apart-swap x y n =
+    apart-by y x
+    (λ e.
+    let h : true ≡ false = sym (same-self x) ∙ ap (same x) (sym e) ∙ n in
+    let z : _≡_ {A = ℕ} 0 1 = cc in
+    omega arith)
 
 -- by their lengths
 pub apart-length : (x y : Text) → (length x ≡ length y → ⊥) → Apart x y

@@ -26,7 +26,7 @@ changed-sizeless (Modifier.Plus n) x = (tt, tt)
 changed-sizeless (Modifier.Minus n) x = (tt, tt)
 
 -- the size variable is not the start variable
-size-start : (m : Arrays) (id : Text) → Apart (named m id (text "_size_")) (startName id)
+pub size-start : (m : Arrays) (id : Text) → Apart (named m id (text "_size_")) (startName id)
 size-start m id =
     subst₂ Apart (append-assoc (prefix m ++ id) (text "_size") (text "_") ∙ append-assoc (prefix m) id (text "_size_"))
     (append-assoc id (text "_start_siz") (text "e"))

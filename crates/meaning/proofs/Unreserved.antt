@@ -204,7 +204,7 @@ module _ (c : Setting) where
   typedef-names id type later (Size.Static n) k = (k, member-free id)
   typedef-names id type later Size.Dynamic k = (k, member-free id)
   typedef-names id type later Size.Unknown k =
-      trailing-names (getTrailingSize later) _ (λ n. pick-block (ltb 0 n) _ _ (k, member-free id) (k, member-free id))
+      trailing-names (getTrailingSize (c .options .trailing) later) _ (λ n. pick-block (ltb 0 n) _ _ (k, member-free id) (k, member-free id))
 
   optional-enum : (cond : Part) (v : ℕ) (id type : Part) (e : EnumOf) → Good cond → Good type → BlockNames (optionalTypedef c cond v id type e)
   optional-enum cond v id type (EnumOf.Enum w isOpen isComplete) h k = pick-block isOpen _ _ (h, member-free id, k) (h, member-free id, k)
@@ -232,7 +232,7 @@ module _ (c : Setting) where
 
   sized-names : (m : Modifier) (later : List Annotated) (b : Bool) → EmitNames (payloadBySize c m later b)
   sized-names m later true = (payload-free, named-free (c .options .arrays) (text "payload") (text "_size"))
-  sized-names m later false = trailing-names (getTrailingSize later) _ (λ n. pick-block (ltb 0 n) _ _ payload-free payload-free)
+  sized-names m later false = trailing-names (getTrailingSize (c .options .trailing) later) _ (λ n. pick-block (ltb 0 n) _ _ payload-free payload-free)
 
   payload-names : (shift : ℕ) (m : Modifier) (later : List Annotated) → EmitNames (parsePayloadFieldLite c shift m later)
   unfolding parsePayloadFieldLite

@@ -65,7 +65,7 @@ abbrev pub BlockOk : Block → Type 0
 BlockOk (Block.checked order n cs) = CheckedOk n cs
 BlockOk (Block.sizedPayload x s c) = Apart x span
 BlockOk (Block.payloadUpTo x t) = Apart x span
-BlockOk (Block.payloadToEnd x) = Unit {0}
+BlockOk (Block.payloadToEnd x) = Apart x span
 BlockOk (Block.array c w a) = ElemOk (a .elementSize) (a .elem)
 BlockOk (Block.paddedArray p c w a) = ElemOk (a .elementSize) (a .elem)
 BlockOk (Block.optionalScalar c v o w x) = Unit {0}

@@ -3,10 +3,11 @@
 use mathlib.Core.Path.{_≡_, refl, sym, ap, _∙_, subst}
 use mathlib.Core.List.{List, [], _∷_, _++_, append-assoc}
 use Prim.Native.Nat.{ℕ, _≤_}
-use lib.ListN.{length}
+use native.Mathlib.Omega.{arith}
+use lib.ListN.{length, length-append}
 use Rattle.definitions.specs.Bytes.{Text}
-use Rattle.definitions.specs.Lines.{Expr, Stmt}
-use Rattle.definitions.specs.Blocks.{span, checkSize, chunksLines, Elem, Array, body, byMode, parseArrayFieldLite, parseArrayFieldFull, fieldLines, Block, blockLines, program}
+use Rattle.definitions.specs.Lines.{Expr, Line, Stmt}
+use Rattle.definitions.specs.Blocks.{span, checkSize, chunksLines, Elem, Array, body, byMode, parseArrayFieldLite, parseArrayFieldFull, arrayLines, sizeName, fieldLines, Block, blockLines, program}
 use Rattle.definitions.specs.declared.Arrays.{Arrays}
 use Rattle.definitions.specs.declared.Modifier.{Modifier}
 use Rattle.definitions.specs.declared.ElementSize.{ElementSize}
@@ -50,17 +51,23 @@ full-before id type elem l ElementSize.Unknown ArraySize.DynamicCount = refl
 full-before id type elem l ElementSize.Unknown ArraySize.DynamicSize = refl
 full-before id type elem l ElementSize.Unknown ArraySize.Unknown = refl
 
-array-ahead : (m : Arrays) (id T : Text) (E : Elem) (l : List Stmt) (e : ElementSize) (n : ArraySize) → Ahead l (byMode m id T E l e n)
-array-ahead Arrays.Lite id T E l e n = (parseArrayFieldLite id T E [] e n, lite-before id T E l e n)
-array-ahead Arrays.Full id T E l e n = (parseArrayFieldFull id T E [] e n, full-before id T E l e n)
+array-before : (m : Arrays) (id T : Text) (E : Elem) (l : List Stmt) (e : ElementSize) (n : ArraySize) → byMode m id T E l e n ≡ byMode m id T E [] e n ++ l
+array-before Arrays.Lite id T E l e n = lite-before id T E l e n
+array-before Arrays.Full id T E l e n = full-before id T E l e n
+
+pub field-before : (m : Modifier) (w : ℕ) (a : Array) (l : List Stmt) → fieldLines m w a l ≡ fieldLines m w a [] ++ l
+field-before m w a l = by m (array-before (a .mode) (a .id) (a .type) (a .elem) l (a .elementSize) (a .arraySize))
+  where
+    by : (c : Modifier) → arrayLines a l ≡ arrayLines a [] ++ l → fieldLines c w a l ≡ fieldLines c w a [] ++ l
+    by Modifier.None e = e
+    by (Modifier.Plus n) e = ap (λ (r : List Stmt). Stmt.one (Line.minus w (sizeName a) n) ∷ r) e
+    by (Modifier.Minus n) e = ap (λ (r : List Stmt). Stmt.one (Line.plus w (sizeName a) n) ∷ r) e
+
+field-ahead : (m : Modifier) (w : ℕ) (a : Array) (l : List Stmt) → Ahead l (fieldLines m w a l)
+field-ahead m w a l = (fieldLines m w a [], field-before m w a l)
 
 more-ahead : (s : Stmt) (l all : List Stmt) → Ahead l all → Ahead l (s ∷ all)
 more-ahead s l all h = (s ∷ h .0, ap (λ (r : List Stmt). s ∷ r) (h .1))
-
-field-ahead : (m : Modifier) (w : ℕ) (a : Array) (l : List Stmt) → Ahead l (fieldLines m w a l)
-field-ahead Modifier.None w a l = array-ahead (a .mode) (a .id) (a .type) (a .elem) l (a .elementSize) (a .arraySize)
-field-ahead (Modifier.Plus n) w a l = more-ahead _ l _ (array-ahead (a .mode) (a .id) (a .type) (a .elem) l (a .elementSize) (a .arraySize))
-field-ahead (Modifier.Minus n) w a l = more-ahead _ l _ (array-ahead (a .mode) (a .id) (a .type) (a .elem) l (a .elementSize) (a .arraySize))
 
 deeper : (s : Stmt) (l all : List Stmt) → Ahead (s ∷ l) all → Ahead l all
 deeper s l all h = (h .0 ++ (s ∷ []), h .1 ∙ sym (append-assoc (h .0) (s ∷ []) l))
@@ -94,9 +101,19 @@ reach pre bs k σ υ r e h =
     subst (λ (all : List Stmt). Through all (program bs) σ k υ r) (sym (a .1))
     (through k σ υ (a .0) (program bs) r (subst (λ (all : List Stmt). run k σ all ≡ running υ r) (a .1) e) h)
 
+-- blocks more are no lines less
+pub more-lines : (pre bs : List Block) → length (program bs) ≤ length (program (pre ++ bs))
+more-lines pre bs =
+    let a = program-ahead pre bs in
+    omega (arith, ap length (a .1), length-append (a .0) (program bs))
+
 pub block-ok : (pre : List Block) (b : Block) (post : List Block) → BlocksOk (pre ++ (b ∷ post)) → BlockOk b
 block-ok [] b post h = h .0
 block-ok (d ∷ pre) b post h = block-ok pre b post (h .1)
+
+pub later-ok : (pre post : List Block) → BlocksOk (pre ++ post) → BlocksOk post
+later-ok [] post h = h
+later-ok (b ∷ pre) post h = later-ok pre post (h .1)
 
 -- ---- the bytes of a span are bytes of the frame
 

@@ -229,7 +229,7 @@ fetch-map σ (Src.bits x k n) K L m h = m _ _ h
 fetch-map σ (Src.held x) K L m h = m _ _ h
 
 module _ (P P′ Q Q′ : Post) (p : (τ : State) → P τ → P′ τ) (q : (τ : State) → Q τ → Q′ τ) where
-  test-map : (σ : State) (c : Test) → wpTest σ c P Q → wpTest σ c P′ Q′
+  pub test-map : (σ : State) (c : Test) → wpTest σ c P Q → wpTest σ c P′ Q′
   test-map σ (Test.less a b) h =
       of-map σ a _ _
       (λ x k. right-map σ b _ _ _ _ (either-map (isSize a) _ _ _ _ (p σ) (q σ)) (λ y m. (λ u. p σ (m .0 u), λ u. q σ (m .1 u))) k) h

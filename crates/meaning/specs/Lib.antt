@@ -6,3 +6,4 @@ pub mod Written
 pub mod Plain
 pub mod Outside
 pub mod Identifiers
+pub mod Payloads

@@ -57,7 +57,7 @@ module _ (t : Tables) (i n : ℕ) (o : Options) where
       by true = ap (bit (widthOf (here k))) (kinds-agree c (fieldIn t i n k .desc))
       by false =
           ap (λ (e : Emit). other (aligned (fieldIn t i n k)) (saidBy e))
-          (answer-agrees (t .source) (t .rows) (t .values) (t .fields) i n k (o .endianness) (o .arrays))
+          (answer-agrees (t .source) (t .rows) (t .values) (t .fields) i n k o)
 
   -- the run from field k on
   entry-run : (k : ℕ) → runBy (planAt t i n o k) (runBits c (rest (k + 1))) ≡ runBits c (here k ∷ rest (k + 1))
@@ -82,7 +82,7 @@ module _ (t : Tables) (i n : ℕ) (o : Options) where
     where
       by : (b : Bool) → SoundBy (planBy t i n o k b) (runBits c (rest (k + 1)))
       by true = refl
-      by false = answer-fits (t .source) (t .rows) (t .values) (t .fields) i n k (o .endianness) fine h
+      by false = answer-fits (t .source) (t .rows) (t .values) (t .fields) i n k o fine h
 
   -- ---- the m entries from number k on
 

@@ -72,7 +72,6 @@ module _ (s rows values fields : List ℕ) (i n : ℕ) (o : Options) where
 
   -- from number k on all is planned, and `later` is the bits of the run there
   pub record Filled (plan : List PlanAt) (later k : ℕ) : Type 0 where
-    pub few : n ≤ 64
     pub fine : Fine tables i n
     pub small : k ≤ n
     pub long : length plan ≡ 64
@@ -80,10 +79,9 @@ module _ (s rows values fields : List ℕ) (i n : ℕ) (o : Options) where
     pub planned : (j : ℕ) → k ≤ j → j < n → entryAt plan j ≡ planAt tables i n o j
     pub unplanned : (j : ℕ) → n ≤ j → j < 64 → entryAt plan j ≡ noPlan
 
-  pub filled-start : n ≤ 64 → Fine tables i n → Filled (replicate 64 noPlan) 0 n
+  pub filled-start : Fine tables i n → Filled (replicate 64 noPlan) 0 n
   unfolding runBits
-  filled-start h fine = record {
-    few = h;
+  filled-start fine = record {
     fine = fine;
     small = omega arith;
     long = length-replicate 64 noPlan;
@@ -108,12 +106,11 @@ module _ (s rows values fields : List ℕ) (i n : ℕ) (o : Options) where
       by : (l : ℕ) → j ≤ l → l < n → (b : Bool) → eqb l j ≡ b → entryAt (set plan j p) l ≡ planAt tables i n o l
       by l a h true q =
           let z : l ≡ j = eqb-true l j q in
-          ap (entryAt (set plan j p)) z ∙ getD-set-same plan j p anyPlan (omega (arith, w .few, w .small, w .long)) ∙ e ∙ ap (planAt tables i n o) (sym z)
+          ap (entryAt (set plan j p)) z ∙ getD-set-same plan j p anyPlan (omega (arith, w .fine .few, w .small, w .long)) ∙ e ∙ ap (planAt tables i n o) (sym z)
       by l a h false q = getD-set-other plan j l p anyPlan (eqb-false l j q) ∙ w .planned l (omega (arith, eqb-false l j q)) h
 
       entry : {more : ℕ} → more ≡ runBits c (rest j) → Filled (set plan j p) more j
       entry q = record {
-        few = w .few;
         fine = w .fine;
         small = omega (arith, w .small);
         long = length-set plan j p ∙ w .long;
@@ -134,7 +131,7 @@ module _ (s rows values fields : List ℕ) (i n : ℕ) (o : Options) where
       unfolding planAt
       taken q = ap (planBy tables i n o j) (sym q ∙ is)
 
-      pub filled-other : b ≡ false → {e : EmitAt} → e ≡ parsedAt tables i n j (o .endianness) → {must : Bool} → must ≡ aligned f
+      pub filled-other : b ≡ false → {e : EmitAt} → e ≡ parsedAt tables i n j o → {must : Bool} → must ≡ aligned f
           → Filled (set plan j (PlanAt.Other must e)) 0 j
       filled-other hb ee em =
           entry

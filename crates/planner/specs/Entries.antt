@@ -26,7 +26,7 @@ module _ (t : Tables) (i n : ℕ) (o : Options) where
         (widthOf (annotatedAt t i n k))
         (runBits (settingAt t i n o) (restAt t i n (k + 1)))
         (kindAt (t .source) (rowsOf t i) (condNames (fieldsOf t i n)) (fieldIn t i n k .desc))
-    | false ↦ PlanAt.Other (aligned (fieldIn t i n k)) (parsedAt t i n k (o .endianness))
+    | false ↦ PlanAt.Other (aligned (fieldIn t i n k)) (parsedAt t i n k o)
   ]
 
   unfoldable pub planAt : ℕ → PlanAt

@@ -9,7 +9,7 @@ use emits::EmitAt;
 use plans::PlanAt;
 ghost use mathlib.Core.Path.{_≡_};
 ghost use mathlib.Core.List.{List};
-ghost use Prim.Native.Nat.{ℕ, _≤_};
+ghost use Prim.Native.Nat.{ℕ};
 ghost use Rattle.definitions.specs.Sizes.{staticWidth};
 ghost use Rattle.definitions.specs.FieldParser.{isBit};
 ghost use Rattle.definitions.specs.declared.Options.{Options};
@@ -104,7 +104,7 @@ pub fn plan_target(
     n: usize,
     options: Options,
 ) -> [PlanAt; 64]
-    requires { let t : Tables = tablesOf (now rec) (now rows) (now values) (now fields) in ⌜ (n ≤ 64) × Fine t i n ⌝ }
+    requires { let t : Tables = tablesOf (now rec) (now rows) (now values) (now fields) in ⌜ Fine t i n ⌝ }
     ensures { λ r. let t : Tables = tablesOf (now (rec .entry)) (now (rows .entry)) (now (values .entry)) (now (fields .entry)) in
         ⌜ Entries t i n options r ⌝ }
 {
@@ -126,8 +126,7 @@ pub fn plan_target(
             plan[k] = PlanAt::Bit { width, later, kind };
             later += width;
         } else {
-            let order = options.endianness;
-            let emit = fields::parse_unchecked(rec, rows, values, fields, i, n, k, order);
+            let emit = fields::parse_unchecked(rec, rows, values, fields, i, n, k, options);
             plan[k] = PlanAt::Other {
                 aligned: aligned(f),
                 emit,

@@ -6,14 +6,13 @@ use mathlib.Core.List.{_∷_}
 use mathlib.Core.Path.{_≡_, refl, sym, ap, _∙_}
 use Rattle.definitions.specs.Bytes.{Text, text, part, pick}
 use Rattle.definitions.specs.Keywords.{isKeyword}
-use Rattle.definitions.specs.Record.{keyAt, onFound, onNumber, onBit, onMaybeNumber, onMaybeSize, onPart, onCond, onDesc, numberLine, bitLine, nameLine, maybeNameLine, bitsLine, maybeNumberLine, descAt, condAt, fieldAt, parentedAt, enumAt, checksumDeclAt, customAt}
+use Rattle.definitions.specs.Record.{keyAt, onFound, onNumber, onBit, onMaybeNumber, onMaybeSize, onPart, onCond, onDesc, numberLine, bitLine, nameLine, maybeNameLine, bitsLine, maybeNumberLine, descAt, condAt, fieldAt, parentedAt, enumAt, checksumDeclAt, customAt, trailingAt, headIs}
 use Rattle.definitions.specs.Refusals.{anyKeyword, maybeName, descNames, condNames}
 use Rattle.definitions.specs.declared.Part.{Part}
 use Rattle.definitions.specs.declared.MaybePart.{MaybePart}
 use Rattle.definitions.specs.declared.MaybeSize.{MaybeSize}
 use Rattle.definitions.specs.declared.Arrays.{Arrays}
 use Rattle.definitions.specs.declared.EndiannessValue.{EndiannessValue}
-use Rattle.definitions.specs.declared.Options.{Options}
 use Rattle.definitions.specs.declared.FieldDesc.{FieldDesc}
 use Rattle.definitions.specs.declared.Cond.{Cond}
 use Rattle.definitions.specs.declared.Field.{Field}
@@ -25,6 +24,7 @@ use Rattle.definitions.specs.declared.DescRead.{DescRead}
 use Rattle.definitions.specs.declared.CondRead.{CondRead}
 use Rattle.definitions.specs.declared.FieldRead.{FieldRead}
 use Rattle.definitions.specs.declared.DeclRead.{DeclRead}
+use Rattle.definitions.specs.declared.TrailingRead.{TrailingRead}
 use Rattle.definitions.specs.declared.HeadRead.{HeadRead}
 use Rattle.definitions.specs.declared.ScreenedName.{ScreenedName}
 use Rattle.definitions.specs.declared.ScreenedPart.{ScreenedPart}
@@ -295,31 +295,45 @@ pub ruleset decl-chain = (decl-found, decl-no-found)
 
 -- ---- the head
 
-pub head-free : {options : Options} {target : ScreenedName} {t : Part} (p : ℕ) → target ≡ ScreenedName.Free t
-    → ScreenedHead.Is (record { options = options; target = t }) p ≡ headOf options target p
-head-free p h = rw h
+-- the line `trailing`, or none
+module _ (bad : TrailingRead) (f : ℕ → TrailingRead) {x : TrailingRead} {r e : Found} (h : r ≡ e) where
+  pub trailing-found : {p : ℕ} → r ≡ Found.At p → x ≡ f p → x ≡ onFound e bad f
+  trailing-found k t = t ∙ ap (λ (e : Found). onFound e bad f) (sym k ∙ h)
 
-pub head-kept : (options : Options) {target : ScreenedName} (p : ℕ) → target ≡ ScreenedName.Keyword → ScreenedHead.Keyword p ≡ headOf options target p
-head-kept options p h = rw h
+  pub trailing-absent : r ≡ Found.Nothing → x ≡ bad → x ≡ onFound e bad f
+  trailing-absent k t = t ∙ ap (λ (e : Found). onFound e bad f) (sym k ∙ h)
+
+pub ruleset trailing-chain = (trailing-found, trailing-absent)
+
+module _ (endianness : EndiannessValue) (arrays : Arrays) {target : ScreenedName} (last : TrailingRead) where
+  pub head-free : {t : Part} → target ≡ ScreenedName.Free t
+      → ScreenedHead.Is (record { options = record { endianness = endianness; arrays = arrays; trailing = last .trailing }; target = t }) (last .next)
+      ≡ headOf endianness arrays target last
+  head-free h = rw h
+
+  pub head-kept : target ≡ ScreenedName.Keyword → ScreenedHead.Keyword (last .next) ≡ headOf endianness arrays target last
+  head-kept h = rw h
+
+pub head-read : (endianness : EndiannessValue) (arrays : Arrays) (target : ScreenedName) {last t : TrailingRead} → last ≡ t
+    → {x : ScreenedHead} → x ≡ headOf endianness arrays target last → x ≡ headOf endianness arrays target t
+head-read endianness arrays target h k = k ∙ ap (headOf endianness arrays target) h
 
 module _ (s : Text) (at : ℕ) (endianness : EndiannessValue) where
-  abbrev optionsOf : Arrays → Options
-  optionsOf arrays = record { endianness = endianness; arrays = arrays }
-
   abbrev pub targetSteps : ScreenedHead
   targetSteps =
       onScreened (screenName s (nameLine s at (text "target="))) ScreenedHead.Wrong λ target q.
       onFound (keyAt s q (text "arrays=lite\n"))
-      (onFound (keyAt s q (text "arrays=full\n")) ScreenedHead.Wrong λ r. headOf (optionsOf Arrays.Full) target r)
-      λ r. headOf (optionsOf Arrays.Lite) target r
+      (onFound (keyAt s q (text "arrays=full\n")) ScreenedHead.Wrong λ r. headOf endianness Arrays.Full target (trailingAt s r))
+      λ r. headOf endianness Arrays.Lite target (trailingAt s r)
 
-  head-of : (arrays : Arrays) (target : Part) (r : ℕ)
-      → headOf (optionsOf arrays) (freeName s target) r ≡ screenHead s (HeadRead.Is (record { options = optionsOf arrays; target = target }) r)
-  head-of arrays target r = by (isKeyword (part s target))
+  head-of : (arrays : Arrays) (target : Part) (t : TrailingRead)
+      → headOf endianness arrays (freeName s target) t ≡ screenHead s (headIs endianness target arrays t)
+  head-of arrays target t = by (isKeyword (part s target))
     where
       by : (b : Bool)
-          → headOf (optionsOf arrays) (pick b ScreenedName.Keyword (ScreenedName.Free target)) r
-          ≡ pick b (ScreenedHead.Keyword r) (ScreenedHead.Is (record { options = optionsOf arrays; target = target }) r)
+          → headOf endianness arrays (pick b ScreenedName.Keyword (ScreenedName.Free target)) t
+          ≡ pick b (ScreenedHead.Keyword (t .next))
+          (ScreenedHead.Is (record { options = record { endianness = endianness; arrays = arrays; trailing = t .trailing }; target = target }) (t .next))
       by true = refl
       by false = refl
 
@@ -329,8 +343,8 @@ module _ (s : Text) (at : ℕ) (endianness : EndiannessValue) where
       ∙ after-name (screenHead s) HeadRead.Wrong s _
       (λ target q.
       after-found (screenHead s)
-      (after-found (screenHead s) refl (λ r. head-of Arrays.Full target r) (keyAt s q (text "arrays=full\n")))
-      (λ r. head-of Arrays.Lite target r)
+      (after-found (screenHead s) refl (λ r. head-of Arrays.Full target (trailingAt s r)) (keyAt s q (text "arrays=full\n")))
+      (λ r. head-of Arrays.Lite target (trailingAt s r))
       (keyAt s q (text "arrays=lite\n")))
       (nameLine s at (text "target="))
 

@@ -3,14 +3,15 @@
 -- Assumes nothing.
 use Prim.Native.Nat.{ℕ}
 use Rattle.definitions.specs.Bytes.{Text, text}
-use Rattle.definitions.specs.Record.{nameLine, onName, onArrays}
+use Rattle.definitions.specs.Record.{nameLine, onName, onArrays, trailingAt, headIs}
+use Rattle.definitions.specs.declared.Arrays.{Arrays}
 use Rattle.definitions.specs.declared.DeclDesc.{DeclDesc}
 use Rattle.definitions.specs.declared.EndiannessValue.{EndiannessValue}
 use Rattle.definitions.specs.declared.HeadRead.{HeadRead}
 use Rattle.definitions.specs.declared.MaybePart.{MaybePart}
-use Rattle.definitions.specs.declared.Options.{Options}
 use Rattle.definitions.specs.declared.ScreenedName.{ScreenedName}
 use Rattle.definitions.specs.declared.ScreenedHead.{ScreenedHead}
+use Rattle.definitions.specs.declared.TrailingRead.{TrailingRead}
 use Rattle.readers.specs.declared.Parented.{Parented}
 
 abbrev pub parented : Parented → MaybePart → DeclDesc
@@ -21,9 +22,10 @@ abbrev pub targetAt : Text → ℕ → EndiannessValue → HeadRead
 targetAt s at endianness =
     onName (nameLine s at (text "target=")) HeadRead.Wrong λ target q.
     onArrays s q HeadRead.Wrong λ arrays r.
-    HeadRead.Is (record { options = record { endianness = endianness; arrays = arrays }; target = target }) r
+    headIs endianness target arrays (trailingAt s r)
 
 -- a head whose target is a name, or a keyword
-abbrev pub headOf : Options → ScreenedName → ℕ → ScreenedHead
-headOf options (ScreenedName.Free target) p = ScreenedHead.Is (record { options = options; target = target }) p
-headOf options ScreenedName.Keyword p = ScreenedHead.Keyword p
+abbrev pub headOf : EndiannessValue → Arrays → ScreenedName → TrailingRead → ScreenedHead
+headOf endianness arrays (ScreenedName.Free target) t =
+    ScreenedHead.Is (record { options = record { endianness = endianness; arrays = arrays; trailing = t .trailing }; target = target }) (t .next)
+headOf endianness arrays ScreenedName.Keyword t = ScreenedHead.Keyword (t .next)

@@ -1,5 +1,5 @@
-// A field, a declaration and the head, as they stand at a place of the record (document 01, 'The record'), or that a name in them is a keyword of C++
-// (document 02, Card 6).
+// A field, a declaration and the head, as they stand at a place of the record (document 01, 'The record'; the head's line `trailing`: document 02,
+// Card 3), or that a name in them is a keyword of C++ (document 02, Card 6).
 
 use definitions::Arrays;
 use definitions::BitRead;
@@ -25,8 +25,10 @@ use definitions::ScreenedName;
 use definitions::ScreenedNameRead;
 use definitions::ScreenedPart;
 use definitions::ScreenedPartRead;
+use definitions::Trailing;
+use definitions::TrailingRead;
 ghost use mathlib.Core.Path.{_≡_};
-ghost use Rattle.definitions.specs.Record.{condAt, fieldAt, parentedAt, enumAt, checksumDeclAt, customAt, declAt, headAt};
+ghost use Rattle.definitions.specs.Record.{condAt, fieldAt, parentedAt, enumAt, checksumDeclAt, customAt, declAt, trailingAt, headAt};
 ghost use Rattle.keywords.specs.Screens.{screenCond, screenField, screenDecl, screenHead};
 ghost use Rattle.readers.specs.Heads.{parented, targetAt, headOf};
 
@@ -248,17 +250,49 @@ pub fn decl_at(rec: &[u8], at: usize) -> ScreenedDecl
     ScreenedDecl::Wrong
 }
 
-// A head with this target.
-fn head_of(options: Options, target: ScreenedName, next: usize) -> ScreenedHead
-    ensures { λ r. ⌜ r ≡ headOf options target next ⌝ }
+// `trailing`; `plain` where the line is absent.
+fn trailing_at(rec: &[u8], at: usize) -> TrailingRead
+    ensures { λ r. ⌜ r ≡ trailingAt (now (rec .entry)) at ⌝ }
 {
+    if let Found::At(next) = names::key_at(rec, at, b"trailing=plain\n") {
+        let trailing = Trailing::Plain;
+        return TrailingRead { trailing, next };
+    }
+    if let Found::At(next) = names::key_at(rec, at, b"trailing=padded\n") {
+        let trailing = Trailing::Padded;
+        return TrailingRead { trailing, next };
+    }
+    TrailingRead {
+        trailing: Trailing::Plain,
+        next: at,
+    }
+}
+
+// A head with this target, whose last line is read.
+fn head_of(
+    endianness: EndiannessValue,
+    arrays: Arrays,
+    target: ScreenedName,
+    last: TrailingRead,
+) -> ScreenedHead
+    ensures { λ r. ⌜ r ≡ headOf endianness arrays target last ⌝ }
+{
+    let trailing = last.trailing;
+    let next = last.next;
     match target {
-        ScreenedName::Free(target) => ScreenedHead::Is(Head { options, target }, next),
+        ScreenedName::Free(target) => {
+            let options = Options {
+                endianness,
+                arrays,
+                trailing,
+            };
+            ScreenedHead::Is(Head { options, target }, next)
+        }
         ScreenedName::Keyword => ScreenedHead::Keyword(next),
     }
 }
 
-// `target` and `arrays`, the lines of the head behind `endian`.
+// `target`, `arrays` and `trailing`, the lines of the head behind `endian`.
 fn target_at(rec: &[u8], at: usize, endianness: EndiannessValue) -> ScreenedHead
     ensures { λ r. ⌜ r ≡ screenHead (now (rec .entry)) (targetAt (now (rec .entry)) at endianness) ⌝ }
 {
@@ -266,17 +300,15 @@ fn target_at(rec: &[u8], at: usize, endianness: EndiannessValue) -> ScreenedHead
         return ScreenedHead::Wrong;
     };
     if let Found::At(q) = names::key_at(rec, p, b"arrays=lite\n") {
-        let arrays = Arrays::Lite;
-        return head_of(Options { endianness, arrays }, target, q);
+        return head_of(endianness, Arrays::Lite, target, trailing_at(rec, q));
     }
     if let Found::At(q) = names::key_at(rec, p, b"arrays=full\n") {
-        let arrays = Arrays::Full;
-        return head_of(Options { endianness, arrays }, target, q);
+        return head_of(endianness, Arrays::Full, target, trailing_at(rec, q));
     }
     ScreenedHead::Wrong
 }
 
-// The head: `endian`, `target`, `arrays`.
+// The head: `endian`, `target`, `arrays`, and `trailing` where it is there.
 pub fn head_at(rec: &[u8], at: usize) -> ScreenedHead
     ensures { λ r. ⌜ r ≡ screenHead (now (rec .entry)) (headAt (now (rec .entry)) at) ⌝ }
 {

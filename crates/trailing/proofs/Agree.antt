@@ -25,6 +25,9 @@ module _ (c : Setting) where
   abbrev emit : EmitAt → Emit
   emit e = emitOf (c .source) (text "payload") (c .options .endianness) (c .options .arrays) (λ id. sizeBacking (c .source) id (c .fields)) e
 
+  abbrev bitsBehind : List Annotated → MaybeNumber
+  bitsBehind later = getTrailingSize (c .options .trailing) later
+
   -- ---- a typedef
 
   typedef-picked : (id type : Part) (bits : ℕ) (b : Bool)
@@ -41,14 +44,14 @@ module _ (c : Setting) where
   typedef-trailing id type MaybeNumber.None = refl
   typedef-trailing id type (MaybeNumber.Some bits) = typedef-picked id type bits (ltb 0 bits)
 
-  typedef-sized : (id type : Part) (later : List Annotated) (z : Size) → emit (typedefAt id type (getTrailingSize later) z) ≡ typedefBySize c id type later z
+  typedef-sized : (id type : Part) (later : List Annotated) (z : Size) → emit (typedefAt id type (bitsBehind later) z) ≡ typedefBySize c id type later z
   unfolding blockOf
   typedef-sized id type later (Size.Static bits) = refl
   typedef-sized id type later Size.Dynamic = refl
-  typedef-sized id type later Size.Unknown = typedef-trailing id type (getTrailingSize later)
+  typedef-sized id type later Size.Unknown = typedef-trailing id type (bitsBehind later)
 
   pub typedefs-agree : (a : Annotated) (id type : Part) (later : List Annotated)
-      → emit (typedefAt id type (getTrailingSize later) (a .fieldSize)) ≡ parseTypedefField c 0 a id type later
+      → emit (typedefAt id type (bitsBehind later) (a .fieldSize)) ≡ parseTypedefField c 0 a id type later
   unfolding parseTypedefField
   typedefs-agree a id type later = typedef-sized id type later (a .fieldSize)
 
@@ -67,12 +70,12 @@ module _ (c : Setting) where
   payload-trailing (MaybeNumber.Some bits) = payload-picked bits (ltb 0 bits)
 
   payload-sized : (modifier : Modifier) (later : List Annotated) (b : Bool)
-      → emit (payloadAt modifier b (getTrailingSize later)) ≡ payloadBySize c modifier later b
+      → emit (payloadAt modifier b (bitsBehind later)) ≡ payloadBySize c modifier later b
   unfolding blockOf
   payload-sized modifier later true = refl
-  payload-sized modifier later false = payload-trailing (getTrailingSize later)
+  payload-sized modifier later false = payload-trailing (bitsBehind later)
 
   pub payloads-agree : (modifier : Modifier) (later : List Annotated)
-      → emit (payloadAt modifier (hasPayloadSize (c .source) (c .fields)) (getTrailingSize later)) ≡ parsePayloadFieldLite c 0 modifier later
+      → emit (payloadAt modifier (hasPayloadSize (c .source) (c .fields)) (bitsBehind later)) ≡ parsePayloadFieldLite c 0 modifier later
   unfolding parsePayloadFieldLite
   payloads-agree modifier later = payload-sized modifier later (hasPayloadSize (c .source) (c .fields))

@@ -1,17 +1,22 @@
 // `parse_typedef_field` and `parse_payload_field_lite` of cxx.rs as values, with `get_trailing_size`: refusal 14. The field is number k of the n that
-// the declaration with the index i has from 64 i on, on an octet boundary and behind refusal 7, so that no size is over the limit.
+// the declaration with the index i has from 64 i on, on an octet boundary and behind refusals 3 and 7, so that no size is over the limit. With
+// `padded` (document 02, Card 3) a later array counts its padded size.
 
+use definitions::Cond;
+use definitions::Field;
+use definitions::FieldDesc;
 use definitions::MaybeNumber;
 use definitions::Modifier;
 use definitions::Part;
 use definitions::Refusal;
 use definitions::Size;
+use definitions::Trailing;
 use emits::BlockAt;
 use emits::EmitAt;
 ghost use mathlib.Core.Path.{_≡_};
 ghost use Prim.Native.Nat.{_+_, _<_};
-ghost use Rattle.definitions.specs.Sizes.{hasPayloadSize};
-ghost use Rattle.definitions.specs.FieldParser.{getTrailingSize};
+ghost use Rattle.definitions.specs.Sizes.{isArray, hasPayloadSize};
+ghost use Rattle.definitions.specs.FieldParser.{isArrayField, laterSize, getTrailingSize};
 ghost use Rattle.tables.specs.Tables.{Tables, tablesOf, fieldsOf};
 ghost use Rattle.emits.specs.Target.{restAt, annotatedAt, Fine};
 ghost use Rattle.trailing.specs.Values.{staticNumber, typedefUpTo, typedefAt, unsizedAt, payloadAt};
@@ -48,7 +53,87 @@ fn field_size(
     annotate::field_size(rec, rows, values, fields, i, n, f)
 }
 
-// The bits of all fields behind number k; none where one of them is not static.
+fn is_array(desc: FieldDesc) -> bool
+    ensures { λ r. ⌜ r ≡ isArray desc ⌝ }
+{
+    match desc {
+        FieldDesc::Checksum { field_id: _ } => false,
+        FieldDesc::Padding { size: _ } => false,
+        FieldDesc::Size {
+            field_id: _,
+            width: _,
+        } => false,
+        FieldDesc::Count {
+            field_id: _,
+            width: _,
+        } => false,
+        FieldDesc::ElementSize {
+            field_id: _,
+            width: _,
+        } => false,
+        FieldDesc::Body => false,
+        FieldDesc::Payload { size_modifier: _ } => false,
+        FieldDesc::FixedScalar { width: _, value: _ } => false,
+        FieldDesc::FixedEnum {
+            enum_id: _,
+            tag_id: _,
+        } => false,
+        FieldDesc::Reserved { width: _ } => false,
+        FieldDesc::Array {
+            id: _,
+            width: _,
+            type_id: _,
+            size_modifier: _,
+            size: _,
+        } => true,
+        FieldDesc::Scalar { id: _, width: _ } => false,
+        FieldDesc::Flag { id: _ } => false,
+        FieldDesc::Typedef { id: _, type_id: _ } => false,
+    }
+}
+
+// An array without a condition.
+fn is_array_field(f: Field) -> bool
+    ensures { λ r. ⌜ r ≡ isArrayField f ⌝ }
+{
+    let cond = f.cond;
+    let desc = f.desc;
+    match cond {
+        Cond::None => is_array(desc),
+        Cond::Some { id: _, value: _ } => false,
+    }
+}
+
+// What field k counts behind a payload or a typedef.
+fn later_size(
+    rec: &[u8],
+    rows: &[u64],
+    values: &[u64],
+    fields: &[u16],
+    i: usize,
+    n: usize,
+    k: usize,
+    trailing: Trailing,
+) -> Size
+    requires { ⌜ k < n ⌝ }
+    requires { let t : Tables = tablesOf (now rec) (now rows) (now values) (now fields) in ⌜ Fine t i n ⌝ }
+    ensures { λ r. let t : Tables = tablesOf (now (rec .entry)) (now (rows .entry)) (now (values .entry)) (now (fields .entry)) in
+        ⌜ r ≡ laterSize trailing (annotatedAt t i n k) ⌝ }
+{
+    let f = references::field_in(values, fields, i, k);
+    let size = annotate::field_size(rec, rows, values, fields, i, n, f);
+    match trailing {
+        Trailing::Plain => size,
+        Trailing::Padded => {
+            if is_array_field(f) {
+                return bits::outer_size(size, annotate::padded_size(values, fields, i, n, k));
+            }
+            size
+        }
+    }
+}
+
+// The bits that all fields behind number k count; none where one of them is not static.
 fn get_trailing_size(
     rec: &[u8],
     rows: &[u64],
@@ -57,16 +142,17 @@ fn get_trailing_size(
     i: usize,
     n: usize,
     k: usize,
+    trailing: Trailing,
 ) -> MaybeNumber
     requires { ⌜ k < n ⌝ }
     requires { let t : Tables = tablesOf (now rec) (now rows) (now values) (now fields) in ⌜ Fine t i n ⌝ }
     ensures { λ r. let t : Tables = tablesOf (now (rec .entry)) (now (rows .entry)) (now (values .entry)) (now (fields .entry)) in
-        ⌜ r ≡ getTrailingSize (restAt t i n (k + 1)) ⌝ }
+        ⌜ r ≡ getTrailingSize trailing (restAt t i n (k + 1)) ⌝ }
 {
     let mut trailing_size: u64 = 0;
     let mut j = k + 1;
     while j < n {
-        let size = field_size(rec, rows, values, fields, i, n, j);
+        let size = later_size(rec, rows, values, fields, i, n, j, trailing);
         let MaybeNumber::Some(bits) = static_bits(size) else {
             return MaybeNumber::None;
         };
@@ -110,12 +196,13 @@ pub fn parse_typedef_field(
     i: usize,
     n: usize,
     k: usize,
+    trailing: Trailing,
     typedef: TypedefParts,
 ) -> EmitAt
     requires { ⌜ k < n ⌝ }
     requires { let t : Tables = tablesOf (now rec) (now rows) (now values) (now fields) in ⌜ Fine t i n ⌝ }
     ensures { λ r. let t : Tables = tablesOf (now (rec .entry)) (now (rows .entry)) (now (values .entry)) (now (fields .entry)) in
-        ⌜ r ≡ typedefAt (typedef .id) (typedef .«type_id») (getTrailingSize (restAt t i n (k + 1))) (annotatedAt t i n k .fieldSize) ⌝ }
+        ⌜ r ≡ typedefAt (typedef .id) (typedef .«type_id») (getTrailingSize trailing (restAt t i n (k + 1))) (annotatedAt t i n k .fieldSize) ⌝ }
 {
     let id = typedef.id;
     let type_id = typedef.type_id;
@@ -126,7 +213,7 @@ pub fn parse_typedef_field(
         Size::Unknown => typedef_up_to(
             id,
             type_id,
-            get_trailing_size(rec, rows, values, fields, i, n, k),
+            get_trailing_size(rec, rows, values, fields, i, n, k, trailing),
         ),
     }
 }
@@ -155,15 +242,16 @@ pub fn parse_payload_field_lite(
     i: usize,
     n: usize,
     k: usize,
+    trailing: Trailing,
     size_modifier: Modifier,
 ) -> EmitAt
     requires { ⌜ k < n ⌝ }
     requires { let t : Tables = tablesOf (now rec) (now rows) (now values) (now fields) in ⌜ Fine t i n ⌝ }
     ensures { λ r. let t : Tables = tablesOf (now (rec .entry)) (now (rows .entry)) (now (values .entry)) (now (fields .entry)) in
-        ⌜ r ≡ payloadAt «size_modifier» (hasPayloadSize (t .source) (fieldsOf t i n)) (getTrailingSize (restAt t i n (k + 1))) ⌝ }
+        ⌜ r ≡ payloadAt «size_modifier» (hasPayloadSize (t .source) (fieldsOf t i n)) (getTrailingSize trailing (restAt t i n (k + 1))) ⌝ }
 {
     if references::has_payload_size(rec, values, fields, i, n) {
         return EmitAt::Appends(BlockAt::SizedPayload(size_modifier));
     }
-    unsized_payload(get_trailing_size(rec, rows, values, fields, i, n, k))
+    unsized_payload(get_trailing_size(rec, rows, values, fields, i, n, k, trailing))
 }

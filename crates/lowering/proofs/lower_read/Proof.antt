@@ -1,6 +1,6 @@
 -- `lowering::lower_read` meets its contract, by the laws of Targets.
 -- Assumes nothing.
-use Rattle.lowering.proofs.Targets.{check-refused, target-ready, target-answers}
+use Rattle.lowering.proofs.Targets.{check-refused, target-fine, target-answers}
 use borrow.Author.Needs.{needs}
 use Rattle.lowering.proofs.lower_read.Statement.{statement}
 use Rattle.lowering.proofs.lower_read.Tie as tie
@@ -22,7 +22,7 @@ count-here-requires c κs = search needs
 
 write-lines-requires : tie.Need-write-lines-requires
 write-lines-requires c κs =
-    target-ready _ _ _ _ _ _ _
+    target-fine _ _ _ _ _ _ _
     (c .before .before .before .before .before .before .before .before .before .before .check-sizes .ensures)
     (c .before .before .before .before .before .before .before .before .i .given .1)
     (c .before .before .before .before .before .before .before .before .before .before .before .before .before .before .before .before .pre)

@@ -14,7 +14,7 @@ plan-target-requires c κs = search needs
 
 write-plan-requires : tie.Need-write-plan-requires
 write-plan-requires c κs =
-    (search needs, is-plan (c .before .before .before .before .before .before .before .before .pre .fine) (c .before .plan-target .ensures) .sound)
+    (search needs, is-plan (c .before .before .before .before .before .before .before .before .pre) (c .before .plan-target .ensures) .sound)
 
 same-length : tie.Need-same-length
 same-length c = search needs

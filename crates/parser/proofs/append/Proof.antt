@@ -27,10 +27,12 @@ returns : tie.Need-returns
 returns c = search (says-block, needs)
 
 returns-2 : tie.Need-returns-2
-returns-2 c = says-none _ _ _ (c .before .before .before .before .args .emit) (search needs) _ _ (search needs)
+returns-2 c = says-none (c .before .before .before .before .args .options) _ _ (c .before .before .before .before .args .emit) (search needs) _ _ (search needs)
 
 returns-3 : tie.Need-returns-3
-returns-3 c = says-refusal _ _ _ (c .before .before .before .before .before .args .emit) (search needs) _ _ (search needs)
+returns-3 c =
+    says-refusal (c .before .before .before .before .before .args .options) _ _ (c .before .before .before .before .before .args .emit)
+    (search needs) _ _ (search needs)
 
 pub append-spec : {M : Type 1} → statement M
 append-spec =

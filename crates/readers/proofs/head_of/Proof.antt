@@ -12,10 +12,10 @@ enum-told : tie.Need-enum-told
 enum-told c = search needs
 
 returns : tie.Need-returns
-returns c = search (head-free, head-kept, needs)
+returns c = search (head-free, needs)
 
 returns-2 : tie.Need-returns-2
-returns-2 c = search (head-free, head-kept, needs)
+returns-2 c = search (head-kept, needs)
 
 pub head-of-spec : {M : Type 1} → statement M
 head-of-spec = tie.close (tie.spec enum-known-target enum-told returns returns-2)

@@ -2,7 +2,7 @@
 -- Assumes nothing.
 use Rattle.names.proofs.Steps.{via}
 use Rattle.keywords.proofs.Screened.{through}
-use Rattle.readers.proofs.Screens.{target-steps}
+use Rattle.readers.proofs.Screens.{target-steps, head-read}
 use borrow.Author.Needs.{needs}
 use Rattle.readers.proofs.target_at.Statement.{statement}
 use Rattle.readers.proofs.target_at.Tie as tie
@@ -31,11 +31,14 @@ key-at-requires c κs = search needs
 enum-known-q : tie.Need-enum-known-q
 enum-known-q c = search needs
 
+trailing-at-requires : tie.Need-trailing-at-requires
+trailing-at-requires c κs = search needs
+
 head-of-requires : tie.Need-head-of-requires
 head-of-requires c κs = search needs
 
 returns-2 : tie.Need-returns-2
-returns-2 c = search (target-steps, via, through, needs)
+returns-2 c = search (target-steps, head-read, via, through, needs)
 
 enum-told-2 : tie.Need-enum-told-2
 enum-told-2 c = search needs
@@ -49,11 +52,14 @@ key-at-requires-2 c κs = search needs
 enum-known-q-2 : tie.Need-enum-known-q-2
 enum-known-q-2 c = search needs
 
+trailing-at-requires-2 : tie.Need-trailing-at-requires-2
+trailing-at-requires-2 c κs = search needs
+
 head-of-requires-2 : tie.Need-head-of-requires-2
 head-of-requires-2 c κs = search needs
 
 returns-3 : tie.Need-returns-3
-returns-3 c = search (target-steps, via, through, needs)
+returns-3 c = search (target-steps, head-read, via, through, needs)
 
 enum-told-3 : tie.Need-enum-told-3
 enum-told-3 c = search needs
@@ -73,12 +79,14 @@ target-at-spec =
     slice-aggregate-key-at
     key-at-requires
     enum-known-q
+    trailing-at-requires
     head-of-requires
     returns-2
     enum-told-2
     slice-aggregate-key-at-2
     key-at-requires-2
     enum-known-q-2
+    trailing-at-requires-2
     head-of-requires-2
     returns-3
     enum-told-3

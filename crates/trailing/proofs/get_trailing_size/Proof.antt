@@ -1,33 +1,32 @@
--- `trailing::get_trailing_size` meets its contract. The invariant: what is left adds up to the answer, and stays within the limit.
+-- `trailing::get_trailing_size` meets its contract. The invariant: what is left adds up to the answer, and stays below 2 ^ 31 for each field.
 -- Assumes nothing.
-use Prim.Native.Nat.{_+_, _-_, _≤_}
+use Prim.Native.Nat.{_+_, _*_, _-_, _≤_}
 use mathlib.Core.Path.{_≡_}
-use Rattle.definitions.specs.Refusals.{staticSum}
 use Rattle.definitions.specs.FieldParser.{trailingFrom, getTrailingSize}
 use Rattle.tables.specs.Tables.{Tables, tablesOf}
 use Rattle.emits.specs.Target.{restAt}
-use Rattle.trailing.proofs.Trailing.{room-start, room-here, room-next, trailing-end, trailing-none, trailing-turn}
+use Rattle.trailing.proofs.Trailing.{room-here, room-next, trailing-end, trailing-none, trailing-turn}
 use borrow.Author.Needs.{needs}
 use Rattle.trailing.proofs.get_trailing_size.Statement.{statement}
 use Rattle.trailing.proofs.get_trailing_size.Tie as tie
 
 abbrev Inv-loop : tie.InvT-loop
-Inv-loop rec rows values fields i n k trailing-size₀ j₀ trailing-size j =
+Inv-loop rec rows values fields i n k trailing trailing-size₀ j₀ trailing-size j =
     let t : Tables = tablesOf rec rows values fields in
-    (j ≤ n) × (trailingFrom trailing-size (restAt t i n j) ≡ getTrailingSize (restAt t i n (k + 1)))
-    × (trailing-size + staticSum (restAt t i n j) ≤ 2147483647)
+    (j ≤ n) × (trailingFrom trailing trailing-size (restAt t i n j) ≡ getTrailingSize trailing (restAt t i n (k + 1)))
+    × (trailing-size ≤ j * 2147483647)
 
 abbrev μ-loop : tie.MeasureT-loop
-μ-loop rec rows values fields i n k trailing-size₀ j₀ trailing-size j = n - j
+μ-loop rec rows values fields i n k trailing trailing-size₀ j₀ trailing-size j = n - j
 
 add-j : tie.Need-add-j Inv-loop μ-loop
 add-j c = search needs
 
 loop-holds : tie.Need-loop-holds Inv-loop μ-loop
-loop-holds c = (search needs, search needs, search (room-start, needs))
+loop-holds c = (search needs, search needs, search (needs))
 
-field-size-requires : tie.Need-field-size-requires Inv-loop μ-loop
-field-size-requires c κs = search needs
+later-size-requires : tie.Need-later-size-requires Inv-loop μ-loop
+later-size-requires c κs = search needs
 
 static-bits-requires : tie.Need-static-bits-requires Inv-loop μ-loop
 static-bits-requires c κs = search needs
@@ -64,7 +63,7 @@ get-trailing-size-spec =
     μ-loop
     add-j
     loop-holds
-    field-size-requires
+    later-size-requires
     static-bits-requires
     enum-known-bits
     enum-told
