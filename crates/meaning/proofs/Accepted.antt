@@ -163,7 +163,8 @@ spares-snoc x (d ∷ bs) b h k = (h .0, spares-snoc x bs b (h .1) k)
 
 module _ (p : FieldParser) (shift : ℕ) (chunk : List Bit) (g : Good p) (w : shift ≡ widths chunk) (sh : Shifted 0 chunk)
     (sp : (nr : ℕ) → SparesAll (chunkName nr) chunk) where
-  push-closed : eqb (shift % 8) 0 ≡ true → (b : Bool) → ltb 64 shift ≡ b → GoodStep (elim b [ true ↦ stop Refusal.ScalarTooWide | false ↦ go (closeChunk p shift chunk) ])
+  push-closed : eqb (shift % 8) 0 ≡ true → (b : Bool) → ltb 64 shift ≡ b
+      → GoodStep (elim b [ true ↦ stop Refusal.ScalarTooWide | false ↦ go (closeChunk p shift chunk) ])
   push-closed e true f = tt
   push-closed e false f =
       record {

@@ -74,7 +74,9 @@ module _ (id T : Text) (E : Elem) (k : ℕ) (l : List Stmt) (σ : State) (rest :
       lines-up k (Line.front Before.old x span e ∷ Line.skip span e ∷ []) l σ (cut-run x e (x-span id) se z (Up k l) σ n ev le rest)
 
   room-cut : (e : Expr) → Sizeless e → Up k (Stmt.one (checkSize e) ∷ Stmt.one (Line.front Before.old x span e) ∷ Stmt.one (Line.skip span e) ∷ l) σ
-  room-cut e se = line k (checkSize e) _ σ (right-in σ _ _ e (sizeless-operands e se σ) (by-check (eval excusing σ e) (held σ) _ (λ n ev le. cut-up e se n ev le)))
+  room-cut e se =
+      line k (checkSize e) _ σ (right-in σ _ _ e (sizeless-operands e se σ)
+      (by-check (eval excusing σ e) (held σ) _ (λ n ev le. cut-up e se n ev le)))
 
   whole-up : Up k (Stmt.one (Line.keep x span) ∷ Stmt.one (Line.clear span) ∷ l) σ
   whole-up = lines-up k (Line.keep x span ∷ Line.clear span ∷ []) l σ (rest _ (omega arith, refl))
@@ -118,11 +120,13 @@ module _ (id T : Text) (E : Elem) (k : ℕ) (l : List Stmt) (σ : State) (rest :
     (omega (arith, ap length (put-other (σ .spans) x (σ .spans span) span (x-span id))), refl),
   )
 
-  count-eaten : (e : Expr) → Sizeless e → ((τ : State) → (n : ℕ) × (eval excusing τ e ≡ num (pos n))) → Up k (Stmt.one (Line.keep x span) ∷ Stmt.count e lines ∷ eaten) σ
+  count-eaten : (e : Expr) → Sizeless e → ((τ : State) → (n : ℕ) × (eval excusing τ e ≡ num (pos n)))
+      → Up k (Stmt.one (Line.keep x span) ∷ Stmt.count e lines ∷ eaten) σ
   count-eaten e se ev =
       line k (Line.keep x span) _ σ
       (down k (Stmt.count e lines ∷ eaten) _
-      (count-up e lines eaten Both Both (λ τ i. of-in τ _ e (sizeless-operands e se τ) (known (eval excusing τ e) (ev τ .0) _ (ev τ .1) (λ m. parse-both τ i, λ m. i))) k eaten-up _ kept-both))
+      (count-up e lines eaten Both Both
+      (λ τ i. of-in τ _ e (sizeless-operands e se τ) (known (eval excusing τ e) (ev τ .0) _ (ev τ .1) (λ m. parse-both τ i, λ m. i))) k eaten-up _ kept-both))
 
   while-eaten : Up k (Stmt.one (Line.keep x span) ∷ Stmt.while (Test.more span) lines ∷ eaten) σ
   while-eaten =
@@ -151,9 +155,11 @@ module _ (id T : Text) (E : Elem) (k : ℕ) (l : List Stmt) (σ : State) (rest :
         λ _. tt,
         λ le. line k (Line.check 4 _) _ σ (λ _. tt, λ ne. ((tt, tt, tt, positive _ ne), known _ _ _ (unlessZero-num _ _ _ ne) (λ _. cut-up _ tt _ refl le, tt))),
       )
-  lite-up ElementSize.Dynamic ArraySize.Unknown h = line k (Line.check 4 _) _ σ (λ _. tt, λ ne. ((tt, tt, tt, positive _ ne), known _ _ _ (unlessZero-num _ _ _ ne) (λ _. whole-up, tt)))
+  lite-up ElementSize.Dynamic ArraySize.Unknown h =
+      line k (Line.check 4 _) _ σ (λ _. tt, λ ne. ((tt, tt, tt, positive _ ne), known _ _ _ (unlessZero-num _ _ _ ne) (λ _. whole-up, tt)))
   lite-up ElementSize.Unknown (ArraySize.StaticCount n) h = count-eaten (Expr.lit n) tt (λ τ. (n, refl))
-  lite-up ElementSize.Unknown ArraySize.DynamicCount h = count-eaten (Expr.var (named Arrays.Lite id (text "_count_"))) tt (λ τ. (τ .vars (named Arrays.Lite id (text "_count_")), refl))
+  lite-up ElementSize.Unknown ArraySize.DynamicCount h =
+      count-eaten (Expr.var (named Arrays.Lite id (text "_count_"))) tt (λ τ. (τ .vars (named Arrays.Lite id (text "_count_")), refl))
   lite-up ElementSize.Unknown ArraySize.DynamicSize h = room-cut _ tt
   lite-up ElementSize.Unknown ArraySize.Unknown h = while-eaten
 
@@ -201,7 +207,8 @@ module _ (id T : Text) (E : Elem) (k : ℕ) (l : List Stmt) (σ : State) (rest :
   scaled q es h a b = omega (arith, mul-le-mul-left {m = reads E} {n = es} q a)
 
   -- after the parts: the skip of a product
-  skip-product : (e : Expr) (m : ℕ) → ((τ : State) → Operands τ e) → ((τ : State) → τ .vars ≡ σ .vars → eval excusing τ e ≡ num (pos m)) → σ .vars elementVar * m ≤ held σ
+  skip-product : (e : Expr) (m : ℕ) → ((τ : State) → Operands τ e) → ((τ : State) → τ .vars ≡ σ .vars → eval excusing τ e ≡ num (pos m))
+      → σ .vars elementVar * m ≤ held σ
       → (τ : State) → Still σ τ → Up k (Stmt.one (Line.skip span (Expr.mul (Expr.var elementVar) e)) ∷ l) τ
   skip-product e m d ev le τ s =
       let v : τ .vars elementVar ≡ σ .vars elementVar = ap (λ (f : Text → ℕ). f elementVar) (s .0) in
@@ -299,7 +306,8 @@ module _ (id T : Text) (E : Elem) (k : ℕ) (l : List Stmt) (σ : State) (rest :
         (tt, tt, tt, tt),
         by-check (limited (over Cause.byProduct) (pos (es * σ .vars countVar))) (held σ) _
             (λ n ev le.
-            each-up startVar (raw-start id) k l σ rest (Expr.var countVar) (raw-count Arrays.Full id) (σ .vars countVar) E (Dest.push (named Arrays.Full id (text "_"))) Out.out refl
+            each-up startVar (raw-start id) k l σ rest (Expr.var countVar) (raw-count Arrays.Full id)
+            (σ .vars countVar) E (Dest.push (named Arrays.Full id (text "_"))) Out.out refl
             (scaled (σ .vars countVar) es (held σ) (h .1) (omega (arith, mul-comm (σ .vars countVar) es, limited-num (es * σ .vars countVar) n ev)))),
       )
   full-up (ElementSize.Static es) ArraySize.DynamicSize h =
@@ -327,7 +335,8 @@ module _ (id T : Text) (E : Elem) (k : ℕ) (l : List Stmt) (σ : State) (rest :
         ),
       )
   full-up ElementSize.Dynamic (ArraySize.StaticCount n) h = product-parts (Expr.lit n) n (λ τ. tt) (λ τ v. refl)
-  full-up ElementSize.Dynamic ArraySize.DynamicCount h = product-parts (Expr.var countVar) (σ .vars countVar) (λ τ. tt) (λ τ v. ap (λ (f : Text → ℕ). num (pos (f countVar))) v)
+  full-up ElementSize.Dynamic ArraySize.DynamicCount h =
+      product-parts (Expr.var countVar) (σ .vars countVar) (λ τ. tt) (λ τ v. ap (λ (f : Text → ℕ). num (pos (f countVar))) v)
   full-up ElementSize.Dynamic ArraySize.DynamicSize h =
       line k (checkSize _) _ σ (
         λ _. tt,
@@ -363,10 +372,12 @@ module _ (id T : Text) (E : Elem) (k : ℕ) (l : List Stmt) (σ : State) (rest :
   full-up ElementSize.Unknown (ArraySize.StaticCount n) h =
       each-up startVar (raw-start id) k l σ rest (Expr.lit n) tt n (Elem.parsed T) (Dest.slot (named Arrays.Full id (text "_"))) Out.moved refl (omega arith)
   full-up ElementSize.Unknown ArraySize.DynamicCount h =
-      each-up startVar (raw-start id) k l σ rest (Expr.var countVar) (raw-count Arrays.Full id) (σ .vars countVar) (Elem.parsed T) (Dest.push (named Arrays.Full id (text "_"))) Out.moved refl (omega arith)
+      each-up startVar (raw-start id) k l σ rest (Expr.var countVar) (raw-count Arrays.Full id)
+      (σ .vars countVar) (Elem.parsed T) (Dest.push (named Arrays.Full id (text "_"))) Out.moved refl (omega arith)
   full-up ElementSize.Unknown ArraySize.DynamicSize h = sized-up (Dest.push (named Arrays.Full id (text "_"))) Out.moved
   full-up ElementSize.Unknown ArraySize.Unknown h =
-      while-up (Test.more span) _ l (Kept startVar σ) (Kept startVar σ) (λ τ i. (parse-kept τ (Dest.push (named Arrays.Full id (text "_"))) Out.moved i, i)) k rest σ (omega arith, refl)
+      while-up (Test.more span) _ l (Kept startVar σ) (Kept startVar σ)
+      (λ τ i. (parse-kept τ (Dest.push (named Arrays.Full id (text "_"))) Out.moved i, i)) k rest σ (omega arith, refl)
 
 -- every array's lines
 pub array-up : (a : Array) → ElemOk (a .elementSize) (a .elem) → (k : ℕ) (l : List Stmt) (σ : State)

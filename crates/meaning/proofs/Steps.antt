@@ -138,7 +138,8 @@ module _ (N : Holder → Type 0) (P : State → Type 0) (keeps : Closed N P) (l 
   on-amount (pos n) g h = h n
   on-amount (negsuc n) g h = tt
 
-  on-front : (σ : State) (s : Text) (n : ℕ) (g : List ℕ → State → Standing) → P σ → ((bytes : List ℕ) (τ : State) → P τ → Leaves (g bytes τ)) → Leaves (takeFront σ s n g)
+  on-front : (σ : State) (s : Text) (n : ℕ) (g : List ℕ → State → Standing)
+      → P σ → ((bytes : List ℕ) (τ : State) → P τ → Leaves (g bytes τ)) → Leaves (takeFront σ s n g)
   on-front σ s n g p h = on-pick (leb n (length (σ .spans s))) _ beyond (h _ _ (keeps .front σ s n p)) tt
 
   on-fetch : (σ : State) (v : Src) (g : ℕ → State → Standing) → P σ → ((n : ℕ) (τ : State) → P τ → Leaves (g n τ)) → Leaves (fetch σ v g)
@@ -146,11 +147,13 @@ module _ (N : Holder → Type 0) (P : State → Type 0) (keeps : Closed N P) (l 
   on-fetch σ (Src.bits x k m) g p h = h _ _ p
   on-fetch σ (Src.held x) g p h = h _ _ p
 
-  on-asked : (list : List Reply) (σ : State) (g : Reply → State → Standing) → ((a : Reply) (r : List Reply) → Leaves (g a (putReplies σ r))) → Leaves (asked list σ g)
+  on-asked : (list : List Reply) (σ : State) (g : Reply → State → Standing)
+      → ((a : Reply) (r : List Reply) → Leaves (g a (putReplies σ r))) → Leaves (asked list σ g)
   on-asked [] σ g h = tt
   on-asked (a ∷ more) σ g h = h a more
 
-  on-test : (σ : State) (c : Test) (t e : State → Standing) → P σ → ((τ : State) → P τ → Leaves (t τ)) → ((τ : State) → P τ → Leaves (e τ)) → Leaves (test excusing σ c t e)
+  on-test : (σ : State) (c : Test) (t e : State → Standing) → P σ → ((τ : State) → P τ → Leaves (t τ))
+      → ((τ : State) → P τ → Leaves (e τ)) → Leaves (test excusing σ c t e)
   on-test σ (Test.less a b) t e p h k =
       on-num (eval excusing σ a) _ (λ x. on-num (eval excusing σ b) _ (λ y. on-pick (less a x y) _ _ (h σ p) (k σ p)))
   on-test σ (Test.ragged a b) t e p h k = on-num (eval excusing σ (Expr.rem a b)) _ (λ r. on-pick (eqZ r (pos 0)) _ _ (k σ p) (h σ p))

@@ -23,7 +23,8 @@ abbrev Ahead : List Stmt → List Stmt → Type 0
 Ahead l all = (a : List Stmt) × (all ≡ a ++ l)
 
 -- the lines of an array stand before those that follow
-lite-before : (id type : Text) (elem : Elem) (l : List Stmt) (e : ElementSize) (n : ArraySize) → parseArrayFieldLite id type elem l e n ≡ parseArrayFieldLite id type elem [] e n ++ l
+lite-before : (id type : Text) (elem : Elem) (l : List Stmt) (e : ElementSize) (n : ArraySize)
+    → parseArrayFieldLite id type elem l e n ≡ parseArrayFieldLite id type elem [] e n ++ l
 lite-before id type elem l (ElementSize.Static z) (ArraySize.StaticCount n) = refl
 lite-before id type elem l (ElementSize.Static z) ArraySize.DynamicCount = refl
 lite-before id type elem l (ElementSize.Static z) ArraySize.DynamicSize = refl
@@ -37,7 +38,8 @@ lite-before id type elem l ElementSize.Unknown ArraySize.DynamicCount = refl
 lite-before id type elem l ElementSize.Unknown ArraySize.DynamicSize = refl
 lite-before id type elem l ElementSize.Unknown ArraySize.Unknown = refl
 
-full-before : (id type : Text) (elem : Elem) (l : List Stmt) (e : ElementSize) (n : ArraySize) → parseArrayFieldFull id type elem l e n ≡ parseArrayFieldFull id type elem [] e n ++ l
+full-before : (id type : Text) (elem : Elem) (l : List Stmt) (e : ElementSize) (n : ArraySize)
+    → parseArrayFieldFull id type elem l e n ≡ parseArrayFieldFull id type elem [] e n ++ l
 full-before id type elem l (ElementSize.Static z) (ArraySize.StaticCount n) = refl
 full-before id type elem l (ElementSize.Static z) ArraySize.DynamicCount = refl
 full-before id type elem l (ElementSize.Static z) ArraySize.DynamicSize = refl
@@ -73,7 +75,8 @@ deeper : (s : Stmt) (l all : List Stmt) → Ahead (s ∷ l) all → Ahead l all
 deeper s l all h = (h .0 ++ (s ∷ []), h .1 ∙ sym (append-assoc (h .0) (s ∷ []) l))
 
 block-ahead : (b : Block) (l : List Stmt) → Ahead l (blockLines b l)
-block-ahead (Block.checked order n cs) l = (body (checkSize (Expr.lit n) ∷ chunksLines order cs) [], body-before (checkSize (Expr.lit n) ∷ chunksLines order cs) l)
+block-ahead (Block.checked order n cs) l =
+    (body (checkSize (Expr.lit n) ∷ chunksLines order cs) [], body-before (checkSize (Expr.lit n) ∷ chunksLines order cs) l)
 block-ahead (Block.sizedPayload x s m) l = (blockLines (Block.sizedPayload x s m) [], refl)
 block-ahead (Block.payloadUpTo x n) l = (blockLines (Block.payloadUpTo x n) [], refl)
 block-ahead (Block.payloadToEnd x) l = (blockLines (Block.payloadToEnd x) [], refl)

@@ -465,7 +465,8 @@ nought s l σ p zero h = p
 nought s l σ p (suc j) h = absurd (not-suc-le-zero h)
 
 -- a first step
-step-up : (k : ℕ) (s : Stmt) (l : List Stmt) (σ : State) → PlainStmt σ s → ((j : ℕ) → j ≤ k → On (step excusing σ s l) (λ τ r. Fine (run j τ r))) → Up (suc k) (s ∷ l) σ
+step-up : (k : ℕ) (s : Stmt) (l : List Stmt) (σ : State) → PlainStmt σ s
+    → ((j : ℕ) → j ≤ k → On (step excusing σ s l) (λ τ r. Fine (run j τ r))) → Up (suc k) (s ∷ l) σ
 step-up k s l σ p h zero m = p
 step-up k s l σ p h (suc j) m = on-fine (step excusing σ s l) (λ τ r. run j τ r) (h j (le-of-suc-le-suc m))
 
