@@ -16,7 +16,7 @@ use Rattle.definitions.specs.declared.FieldDesc.{FieldDesc}
 use Rattle.definitions.specs.declared.Cond.{Cond}
 use Rattle.lengths.proofs.Booleans.{impossible}
 use Rattle.meaning.specs.Payloads.{paddedBits, PaddedIn}
-use Rattle.meaning.proofs.Placing.{Grown, check-grown, parse-grown, all-grown, LoweredBehind}
+use Rattle.meaning.proofs.Placing.{GrownBy, AnyBlocks, Grown, then-by, check-grown, parse-grown, all-grown, LoweredBehind}
 
 -- ---- among more blocks
 
@@ -56,32 +56,13 @@ module _ (n : ℕ) where
   -- ---- the code grows by its block
 
   abbrev Gains : List Block → Step → Type 0
-  Gains bs (go q) = (more : List Block) × (q .code ≡ bs ++ more) × Has more
-  Gains bs (stop why) = Unit {0}
+  Gains = GrownBy Has
 
   grown-gains : (bs : List Block) (s : Step) (f : FieldParser → Step) → Grown bs s → ((q : FieldParser) → Gains (q .code) (f q)) → Gains bs (andThen s f)
-  grown-gains bs (stop why) f h k = tt
-  grown-gains bs (go q) f h k = further (f q) (k q)
-    where
-      further : (s : Step) → Gains (q .code) s → Gains bs s
-      further (stop why) g = tt
-      further (go r) g = (
-        h .0 ++ g .0,
-        g .1 ∙ ap (λ (l : List Block). l ++ g .0) (h .1) ∙ append-assoc bs (h .0) (g .0),
-        has-behind (h .0) (g .0) (g .2),
-      )
+  grown-gains bs s f h k = then-by AnyBlocks Has Has (λ a b _ g. has-behind a b g) bs s f h k
 
   gains-grown : (bs : List Block) (s : Step) (f : FieldParser → Step) → Gains bs s → ((q : FieldParser) → Grown (q .code) (f q)) → Gains bs (andThen s f)
-  gains-grown bs (stop why) f h k = tt
-  gains-grown bs (go q) f h k = further (f q) (k q)
-    where
-      further : (s : Step) → Grown (q .code) s → Gains bs s
-      further (stop why) g = tt
-      further (go r) g = (
-        h .0 ++ g .0,
-        g .1 ∙ ap (λ (l : List Block). l ++ g .0) (h .1) ∙ append-assoc bs (h .0) (g .0),
-        has-before (h .0) (g .0) (h .2),
-      )
+  gains-grown bs s f h k = then-by Has AnyBlocks Has (λ a b g _. has-before a b g) bs s f h k
 
   -- ---- an array's field
 

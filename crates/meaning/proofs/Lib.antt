@@ -28,6 +28,7 @@ pub mod Frame
 pub mod Passing
 pub mod Steps
 pub mod Safe
+pub mod Trailing
 pub mod Arrays
 pub mod Pieces
 pub mod Moves

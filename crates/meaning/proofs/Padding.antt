@@ -5,20 +5,19 @@ use mathlib.Core.List.{List, [], _∷_, _++_}
 use Prim.Native.Nat.{ℕ, _+_, _-_, _≤_}
 use native.Mathlib.Omega.{arith}
 use lib.ListN.{length, take, drop, take-append-drop, length-append, length-drop}
-use lib.IntN.{pos, _-ℤ_}
 use Rattle.definitions.specs.Bytes.{Text}
-use Rattle.definitions.specs.Lines.{Expr, Test, Before, Line, Stmt}
-use Rattle.definitions.specs.Blocks.{span, roomFor, gone, missing, startName, Array, fieldLines, Block, program}
+use Rattle.definitions.specs.Lines.{Expr, Before, Line, Stmt}
+use Rattle.definitions.specs.Blocks.{span, startName, Array, fieldLines, Block, program}
 use Rattle.definitions.specs.declared.Modifier.{Modifier}
-use Rattle.meaning.specs.Machine.{State, Num, num, bind, eval, running, run, excusing}
+use Rattle.meaning.specs.Machine.{State, running, run}
 use Rattle.meaning.specs.Runs.{ComeTo}
 use Rattle.meaning.specs.Payloads.{PaddedIn, fromArray, behindPadding, TakesPadded}
 use Rattle.meaning.proofs.Wellformed.{Apart, BlocksOk}
 use Rattle.meaning.proofs.Names.{put-other, put-same}
-use Rattle.meaning.proofs.Wp.{wpTest, wpLines, held}
-use Rattle.meaning.proofs.Pieces.{known, minus-num, natural-is, by-check}
+use Rattle.meaning.proofs.Wp.{held}
 use Rattle.meaning.proofs.Arrays.{raw-start, own-start}
 use Rattle.meaning.proofs.Safe.{size-start}
+use Rattle.meaning.proofs.Trailing.{lacks, fill, Fills, padding-fills}
 use Rattle.meaning.proofs.Steps.{Holder, aSpan, aVariable, Closed}
 use Rattle.meaning.proofs.Sets.{HasArray, field-set}
 use Rattle.meaning.proofs.Passing.{Through, Passed, passed, passed-if, through-kept, run-add}
@@ -48,36 +47,6 @@ variable-kept z n =
       clear = λ σ s h. h;
     }
 
--- ---- the padding
-
-abbrev lacks : Text → ℕ → Test
-lacks z p = Test.less (gone z) (Expr.lit p)
-
-abbrev fill : Text → ℕ → List Line
-fill z p = roomFor (missing z p) ∷ Line.skip span (missing z p) ∷ []
-
--- z holds what the span had: behind the padding p bytes less are left, or fewer
-padding-fills : (z : Text) (p : ℕ) (σ : State) → held σ ≤ σ .vars z
-    → wpTest σ (lacks z p) (wpLines (fill z p) (λ τ. p + held τ ≤ σ .vars z)) (λ τ. p + held τ ≤ σ .vars z)
-padding-fills z p σ h =
-    let g : eval excusing σ (gone z) ≡ num (pos (σ .vars z - held σ)) = minus-num (σ .vars z) (held σ) h in
-    let value : eval excusing σ (missing z p) ≡ num (pos p -ℤ pos (σ .vars z - held σ)) = ap (λ (v : Num). bind v (λ y. num (pos p -ℤ y))) g in (
-      (tt, tt, tt, tt),
-      known (eval excusing σ (gone z)) (σ .vars z - held σ) _ g (
-        λ m. (
-          (tt, (tt, tt, tt, tt), tt, natural-is _ _ g),
-          by-check (eval excusing σ (missing z p)) (held σ) _
-              (λ n ev le.
-              let same : num (pos n) ≡ num (pos (p - (σ .vars z - held σ))) = sym ev ∙ value ∙ minus-num p (σ .vars z - held σ) (omega arith) in
-              let size : n ≡ p - (σ .vars z - held σ) = cc in (
-                (tt, (tt, tt, tt, tt), tt, natural-is _ _ g),
-                known (eval excusing σ (missing z p)) n _ ev (le, omega (arith, size, length-drop n (σ .spans span))),
-              )),
-        ),
-        λ m. omega arith,
-      ),
-    )
-
 -- ---- the block's lines, from its first on
 
 module _ (p : ℕ) (m : Modifier) (w : ℕ) (a : Array) (rest : List Block) (ok : BlocksOk (Block.paddedArray p m w a ∷ rest)) (σ : State) where
@@ -105,7 +74,7 @@ module _ (p : ℕ) (m : Modifier) (w : ℕ) (a : Array) (rest : List Block) (ok 
     from-last i j μ within comes e goes =
         let h = end-of (block ∷ rest) ok i σ μ last comes in
         let g =
-        passed-if (lacks z p) (fill z p) (λ τ. p + held τ ≤ μ .vars z) (program rest) l μ υ j
+        passed-if (lacks z p) (fill z p) (Fills z p μ) (program rest) l μ υ j
         (padding-fills z p μ (omega (arith, e, ap length (h .1), length-drop (h .0) (σ .spans span)))) goes short in (
           i + g .0,
           g .1,

@@ -3,29 +3,27 @@
 -- Assumes nothing.
 use mathlib.Core.Path.{_≡_, refl, sym, ap, _∙_, subst}
 use mathlib.Core.Bool.{Bool, true, false}
-use mathlib.Core.List.{List, [], _∷_, _++_, append-nil}
+use mathlib.Core.List.{List, [], _∷_, _++_}
 use mathlib.Core.Option.{some}
 use Prim.Native.Nat.{ℕ, _+_, _-_, _/_, _≤_}
 use native.Mathlib.Omega.{arith}
 use lib.Dec.{ltb}
-use lib.ListN.{length, take, drop, take-append-drop, length-drop}
-use lib.IntN.{pos, _-ℤ_}
+use lib.ListN.{length, take, take-append-drop}
 use borrow.Author.Tests.{ltb-false}
 use Rattle.definitions.specs.Bytes.{Text, text, pick}
-use Rattle.definitions.specs.Lines.{Expr, Before, Line, Stmt}
+use Rattle.definitions.specs.Lines.{Line, Stmt}
 use Rattle.definitions.specs.Sizes.{Annotated, isPayload, hasPayloadSize}
-use Rattle.definitions.specs.Blocks.{span, roomFor, allBut, body, Block, blockLines, program}
+use Rattle.definitions.specs.Blocks.{span, body, Block, blockLines, program}
 use Rattle.definitions.specs.FieldParser.{Setting, FieldParser, andThen, getTrailingSize, payloadName, unsizedPayload, parseAll, done, accepted, codeOf, lowerFields}
 use Rattle.definitions.specs.Answer.{answer}
 use Rattle.definitions.specs.declared.MaybeNumber.{MaybeNumber}
 use Rattle.definitions.specs.declared.Trailing.{Trailing}
-use Rattle.meaning.specs.Machine.{put, Reply, State, putSpan, advance, start, num, ended, running, run}
+use Rattle.meaning.specs.Machine.{Reply, State, start, ended, running, run}
 use Rattle.meaning.specs.Runs.{ComeTo, Target, targetOf, setting}
 use Rattle.meaning.specs.Payloads.{paddedBits, HaveBits, EndsBefore, PaddedIn, fromArray, behindPadding, TakesPadded, ArrayBehind}
 use Rattle.meaning.proofs.Wellformed.{Apart, BlocksOk}
-use Rattle.meaning.proofs.Names.{apart-swap, put-other, put-same}
-use Rattle.meaning.proofs.Wp.{Post, wpLines, held}
-use Rattle.meaning.proofs.Pieces.{known, minus-num}
+use Rattle.meaning.proofs.Wp.{wpLines}
+use Rattle.meaning.proofs.Trailing.{Split, upTo, toEnd, up-to-splits, to-end-splits}
 use Rattle.meaning.proofs.Passing.{Through, Passed, passed, run-add, stood-empty}
 use Rattle.meaning.proofs.Whole.{reach, more-lines, later-ok}
 use Rattle.meaning.proofs.Entries.{grounds}
@@ -63,11 +61,7 @@ pub record PayloadEnds (bs : List Block) (c : Setting) (later : List Annotated) 
       → ComeTo (behindPadding a) bs (start frame vars replies) k
       → ArrayBehind bs post a (payloadName c (text "_")) (bits / 8) frame (start frame vars replies) k
 
--- ---- the payload's lines split the span
-
--- into x, and n bytes that are left
-abbrev Split : Text → ℕ → State → Post
-Split x n σ τ = (τ .spans x ++ τ .spans span ≡ σ .spans span) × (length (τ .spans span) ≡ n)
+-- ---- a payload's block splits the span
 
 record Splits (x : Text) (n : ℕ) (b : Block) : Type 0 where
   lines : List Line
@@ -75,63 +69,14 @@ record Splits (x : Text) (n : ℕ) (b : Block) : Type 0 where
   splits : (σ : State) → wpLines lines (Split x n σ) σ
 
 module _ (x : Text) (ne : Apart x span) where
-  abbrev upTo : ℕ → List Line
-  upTo n = roomFor (Expr.lit n) ∷ Line.front Before.old x span (allBut n) ∷ Line.skip span (allBut n) ∷ []
-
-  abbrev toEnd : List Line
-  toEnd = Line.keep x span ∷ Line.clear span ∷ []
-
-  -- x is set, and then the span
-  both-set : (f : Text → List ℕ) (a b : List ℕ) → put (put f x a) span b x ≡ a
-  both-set f a b = put-other (put f x a) span b x (apart-swap x span ne) ∙ put-same f x a
-
-  module _ (σ : State) (m : ℕ) where
-    abbrev first : List ℕ
-    first = take m (σ .spans span)
-
-    span-stays : put (σ .spans) x first span ≡ σ .spans span
-    span-stays = put-other (σ .spans) x first span ne
-
-    -- m bytes are cut off its front
-    cut-splits : (n : ℕ) → held σ - m ≡ n → Split x n σ (advance (putSpan σ x first) span m)
-    cut-splits n e =
-        let rest : drop m (put (σ .spans) x first span) ≡ drop m (σ .spans span) = ap (drop m) span-stays in (
-          ap (λ (a : List ℕ). a ++ drop m (put (σ .spans) x first span)) (both-set (σ .spans) first _)
-              ∙ ap (λ (b : List ℕ). first ++ b) rest
-              ∙ take-append-drop m (σ .spans span),
-          ap length rest ∙ length-drop m (σ .spans span) ∙ e,
-        )
-
-  up-to-splits : (n : ℕ) (σ : State) → wpLines (upTo n) (Split x n σ) σ
-  up-to-splits n σ = (
-    λ _. tt,
-    λ le.
-        let m : ℕ = held σ - n in
-        let stays : put (σ .spans) x (take m (σ .spans span)) span ≡ σ .spans span = span-stays σ m in (
-          (tt, tt, tt, tt),
-          known (num (pos (held σ) -ℤ pos n)) m _ (minus-num (held σ) n le) (
-            omega arith,
-            (
-              (tt, tt, tt, tt),
-              known (num (pos (length (put (σ .spans) x (take m (σ .spans span)) span)) -ℤ pos n)) m _
-                  (ap (λ (q : List ℕ). num (pos (length q) -ℤ pos n)) stays ∙ minus-num (held σ) n le)
-                  (omega (arith, ap length stays), cut-splits σ m n (omega arith)),
-            ),
-          ),
-        ),
-  )
-
-  to-end-splits : (σ : State) → wpLines toEnd (Split x 0 σ) σ
-  to-end-splits σ = (ap (λ (a : List ℕ). a ++ []) (both-set (σ .spans) (σ .spans span) []) ∙ append-nil (σ .spans span), refl)
-
   payload-splits : (bits : ℕ) → Splits x (bits / 8) (unsizedPayload x bits)
   payload-splits bits = by (ltb 0 bits) refl
     where
       by : (b : Bool) → ltb 0 bits ≡ b → Splits x (bits / 8) (pick b (Block.payloadUpTo x (bits / 8)) (Block.payloadToEnd x))
-      by true e = record { lines = upTo (bits / 8); lines-are = λ l. refl; splits = up-to-splits (bits / 8) }
+      by true e = record { lines = upTo x (bits / 8); lines-are = λ l. refl; splits = up-to-splits x ne (bits / 8) }
       by false e =
           let z : 0 ≡ bits / 8 = omega (arith, ltb-false 0 bits e) in
-          subst (λ (n : ℕ). Splits x n (Block.payloadToEnd x)) z (record { lines = toEnd; lines-are = λ l. refl; splits = to-end-splits })
+          subst (λ (n : ℕ). Splits x n (Block.payloadToEnd x)) z (record { lines = toEnd x; lines-are = λ l. refl; splits = to-end-splits x ne })
 
 -- ---- a run that has come behind it
 

@@ -24,24 +24,41 @@ use Rattle.meaning.specs.Payloads.{paddedBits, HaveBits}
 
 -- ---- the code only grows
 
-abbrev pub Grown : List Block → Step → Type 0
-Grown bs (go q) = (more : List Block) × (q .code ≡ bs ++ more)
-Grown bs (stop why) = Unit {0}
+-- by blocks that are P
+abbrev pub GrownBy : (List Block → Type 0) → List Block → Step → Type 0
+GrownBy P bs (go q) = (more : List Block) × (q .code ≡ bs ++ more) × P more
+GrownBy P bs (stop why) = Unit {0}
 
-still : (bs : List Block) → (more : List Block) × (bs ≡ bs ++ more)
-still bs = ([], sym (append-nil bs))
+-- by any blocks
+abbrev pub AnyBlocks : List Block → Type 0
+AnyBlocks more = Unit {0}
+
+abbrev pub Grown : List Block → Step → Type 0
+Grown = GrownBy AnyBlocks
+
+still : (bs : List Block) → (more : List Block) × (bs ≡ bs ++ more) × AnyBlocks more
+still bs = ([], sym (append-nil bs), tt)
+
+module _ (P Q R : List Block → Type 0) (join : (a b : List Block) → P a → Q b → R (a ++ b)) where
+  pub then-by : (bs : List Block) (s : Step) (f : FieldParser → Step) → GrownBy P bs s → ((q : FieldParser) → GrownBy Q (q .code) (f q))
+      → GrownBy R bs (andThen s f)
+  then-by bs (stop why) f h k = tt
+  then-by bs (go q) f h k = further (f q) (k q)
+    where
+      further : (s : Step) → GrownBy Q (q .code) s → GrownBy R bs s
+      further (stop why) g = tt
+      further (go r) g = (
+        h .0 ++ g .0,
+        g .1 ∙ ap (λ (l : List Block). l ++ g .0) (h .1) ∙ append-assoc bs (h .0) (g .0),
+        join (h .0) (g .0) (h .2) (g .2),
+      )
 
 then-grown : (bs : List Block) (s : Step) (f : FieldParser → Step) → Grown bs s → ((q : FieldParser) → Grown (q .code) (f q)) → Grown bs (andThen s f)
-then-grown bs (stop why) f h k = tt
-then-grown bs (go q) f h k = further (f q) (k q)
-  where
-    further : (s : Step) → Grown (q .code) s → Grown bs s
-    further (stop why) g = tt
-    further (go r) g = (h .0 ++ g .0, g .1 ∙ ap (λ (l : List Block). l ++ g .0) (h .1) ∙ append-assoc bs (h .0) (g .0))
+then-grown bs s f h k = then-by AnyBlocks AnyBlocks AnyBlocks (λ a b _ _. tt) bs s f h k
 
 flushed-grown : (c : Setting) (p : FieldParser) (cs : List Chunk) (bs : List Bit) → Grown (p .code) (flushed c p cs bs)
 flushed-grown c p [] bs = still (p .code)
-flushed-grown c p (d ∷ ds) [] = (_, refl)
+flushed-grown c p (d ∷ ds) [] = (_, refl, tt)
 flushed-grown c p (d ∷ ds) (b ∷ bs) = tt
 
 pub check-grown : (c : Setting) (p : FieldParser) → Grown (p .code) (checkCode c p)
@@ -68,7 +85,7 @@ bit-grown c p a =
     (eqb ((p .shift + staticWidth (a .fieldSize)) % 8) 0)
 
 emitted-grown : (q : FieldParser) (e : Emit) → Grown (q .code) (emitted q e)
-emitted-grown q (appends b) = (b ∷ [], refl)
+emitted-grown q (appends b) = (b ∷ [], refl, tt)
 emitted-grown q silent = still (q .code)
 emitted-grown q (refuses why) = tt
 

@@ -10,14 +10,15 @@ use Rattle.definitions.specs.Bytes.{text, Text}
 use Rattle.definitions.specs.Lines.{Expr, Test, Before, Line, Stmt}
 use Rattle.meaning.specs.Machine.{put, State, putVar, num, eval, running, beyond, run, excusing}
 use Rattle.meaning.specs.Plain.{PlainNext}
-use Rattle.definitions.specs.Blocks.{span, roomFor, gone, missing, allBut, actualSize, prefix, named, bare, startName, sizeName, Array, fieldLines, Block, blockLines, program}
+use Rattle.definitions.specs.Blocks.{span, roomFor, allBut, actualSize, prefix, named, bare, startName, sizeName, Array, fieldLines, Block, blockLines, program}
 use Rattle.definitions.specs.declared.Modifier.{Modifier}
 use Rattle.definitions.specs.declared.Arrays.{Arrays}
 use Rattle.meaning.proofs.Wellformed.{Apart, ElemOk, BlockOk, BlocksOk}
 use Rattle.meaning.proofs.Names.{apart-ends, put-other, put-same}
-use Rattle.meaning.proofs.Wp.{Fine, right-in, Up, Safe, up, down, lines-up, when-up, held}
+use Rattle.meaning.proofs.Wp.{Fine, right-in, wpLines, test-map, lines-map, Up, Safe, up, down, lines-up, when-up, held}
+use Rattle.meaning.proofs.Trailing.{Split, upTo, up-to-splits, lacks, fill, Fills, padding-fills}
 use Rattle.meaning.proofs.Moves.{run-safe}
-use Rattle.meaning.proofs.Pieces.{Sizeless, sizeless-operands, known, minus-num, natural-is, by-check, line, Kept, cut-run}
+use Rattle.meaning.proofs.Pieces.{Sizeless, sizeless-operands, known, minus-num, by-check, line, Kept, cut-run}
 use Rattle.meaning.proofs.Arrays.{array-up, own-span}
 
 changed-sizeless : (c : Modifier) (x : Text) → Sizeless (actualSize c x)
@@ -56,24 +57,7 @@ module _ (k : ℕ) (l : List Stmt) (s : Safe l) (σ : State) where
 
   upTo-up : (x : Text) (t : ℕ) → Apart x span → Up k (blockLines (Block.payloadUpTo x t) l) σ
   upTo-up x t ne =
-      line k (roomFor (Expr.lit t)) _ σ (
-        λ _. tt,
-        λ le.
-            let p : List ℕ = take (held σ - t) (σ .spans span) in
-            let other : put (σ .spans) x p span ≡ σ .spans span = put-other (σ .spans) x p span ne in
-            lines-up k (Line.front Before.old x span (allBut t) ∷ Line.skip span (allBut t) ∷ []) l σ (
-              (tt, tt, tt, tt),
-              known (num (pos (held σ) -ℤ pos t)) (held σ - t) _ (minus-num (held σ) t le) (
-                omega arith,
-                (
-                  (tt, tt, tt, tt),
-                  known (num (pos (length (put (σ .spans) x p span)) -ℤ pos t)) (held σ - t) _
-                      (ap (λ (q : List ℕ). num (pos (length q) -ℤ pos t)) other ∙ minus-num (held σ) t le)
-                      (omega (arith, ap length other), up l s _ k),
-                ),
-              ),
-            ),
-      )
+      lines-up k (upTo x t) l σ (lines-map (Split x t σ) (Up k l) (λ τ _. up l s τ k) (upTo x t) σ (up-to-splits x ne t σ))
 
   -- a parser on the part before the trailing bytes, and the skip of what it left there
   nestedUpTo-up : (id : Text) (t : ℕ) (T x : Text) → Up k (blockLines (Block.nestedUpTo id t T x) l) σ
@@ -110,22 +94,12 @@ module _ (k : ℕ) (l : List Stmt) (s : Safe l) (σ : State) where
       )
 
   -- the padding: z holds what the span was
-  padding-up : (z : Text) (p : ℕ) → held σ ≤ σ .vars z
-      → Up k (Stmt.when (Test.less (gone z) (Expr.lit p)) (roomFor (missing z p) ∷ Line.skip span (missing z p) ∷ []) ∷ l) σ
+  padding-up : (z : Text) (p : ℕ) → held σ ≤ σ .vars z → Up k (Stmt.when (lacks z p) (fill z p) ∷ l) σ
   padding-up z p h =
-      let g : eval excusing σ (gone z) ≡ num (pos (σ .vars z - held σ)) = minus-num (σ .vars z) (held σ) h in
       down k _ σ
-      (when-up k (Test.less (gone z) (Expr.lit p)) _ l σ (
-        (tt, tt, tt, tt),
-        known (eval excusing σ (gone z)) (σ .vars z - held σ) _ g (
-          λ m. (
-            (tt, (tt, tt, tt, tt), tt, natural-is _ _ g),
-            by-check (eval excusing σ (missing z p)) (held σ) _
-                (λ n ev le. ((tt, (tt, tt, tt, tt), tt, natural-is _ _ g), known (eval excusing σ (missing z p)) n _ ev (le, up l s _ k))),
-          ),
-          λ m. up l s σ k,
-        ),
-      ))
+      (when-up k (lacks z p) (fill z p) l σ
+      (test-map (wpLines (fill z p) (Fills z p σ)) (wpLines (fill z p) (Up k l)) (Fills z p σ) (Up k l)
+      (λ τ v. lines-map (Fills z p σ) (Up k l) (λ υ _. up l s υ k) (fill z p) τ v) (λ τ _. up l s τ k) σ (lacks z p) (padding-fills z p σ h)))
 
 pub block-safe : (b : Block) (l : List Stmt) → BlockOk b → Safe l → Safe (blockLines b l)
 block-safe (Block.checked order n cs) l h s σ j = run-safe order n cs l (omega (arith, h .number)) s σ j

@@ -1,6 +1,6 @@
 -- The spans and variables that an array's lines set, in all their 24 shapes.
 -- Assumes nothing.
-use mathlib.Core.List.{List, []}
+use mathlib.Core.List.{List}
 use Prim.Native.Nat.{ℕ}
 use Rattle.definitions.specs.Bytes.{Text, text}
 use Rattle.definitions.specs.Lines.{Dest, Out, Stmt}
