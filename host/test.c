@@ -1,7 +1,7 @@
 /*
  * Tests the exported function from C: the marked cases P1 to P13 of document 01, records that are empty, cut or damaged, names that are
- * keywords of C++ (16), lines `bits` (17), the head line `trailing`, buffers of every relevant size, and the cases of the stored sample,
- * which the judge answered (oracle/README.md, 'Cases').
+ * keywords of C++ (16), lines `bits` (17), the head lines `trailing` and `raw`, buffers of every relevant size, and the cases of the
+ * stored sample, which the judge answered (oracle/README.md, 'Cases').
  *   test SAMPLE
  * The last line is 'N passed, M failed'; the exit status is 0 if nothing failed.
  */
@@ -404,7 +404,7 @@ static const char *const no_trailing[] = {
     "trailing=padded\r\n", "trailing=padde\n", "trailing=paddedd\n", "trailing=plain0\n", "trailing=0\n", "trailing=plainpadded\n",
     "Trailing=padded\n", "trailin=padded\n", "trailings=padded\n", " trailing=padded\n", "trailing =padded\n", "trailing==padded\n",
     "trailing:padded\n", "trailing\n", "padded\n", "trailing=padded", "\n" PADDED, PADDED "\n", PLAIN PLAIN, PADDED PADDED, PLAIN PADDED,
-    PADDED PLAIN, PADDED "arrays=lite\n", "raw=plain\n", "products=plain\n", PADDED "raw=plain\n",
+    PADDED PLAIN, PADDED "arrays=lite\n", "raw=padded\n", "products=plain\n", "raw=plain\n" PADDED,
 };
 
 static const struct {
@@ -440,7 +440,7 @@ static size_t long_record(char *record, const char *line, size_t length)
 }
 
 /* The line counts among the 16,384 bytes; up to them the lines are those of the record without it. */
-static void test_long_trailing(const char *line)
+static void test_long_line(const char *line)
 {
     static char record[RUPHWENQO_RECORD_MAX + 100];
     static uint8_t text[RUPHWENQO_LINES_ROOM];
@@ -469,8 +469,8 @@ static void test_trailing(void)
     }
     for (size_t i = 0; i < sizeof no_trailing_places / sizeof no_trailing_places[0]; i++)
         expect_answer(no_trailing_places[i].record, 2, "", "a line `trailing`", no_trailing_places[i].place);
-    test_long_trailing(PLAIN);
-    test_long_trailing(PADDED);
+    test_long_line(PLAIN);
+    test_long_line(PADDED);
 
     /* a typedef of unknown size, a payload with a size, and no payload at all */
 #define NESTED(bytes) \
@@ -499,6 +499,172 @@ static void test_trailing(void)
     expect_answer(HEAD PADDED LAMP SCALAR("int", "8"), 16, "", "a keyword,", PADDED);
     expect_answer(HEAD PADDED LAMP "bits=16\n" PAYLOAD ARRAY("a", "8", "2") PADDING("8"), 17, "", "a wrong size,", PADDED);
     expect_answer(HEAD PADDED LAMP "bits=unknown\n" ARRAY("a", "8", "-") PADDING("8"), 17, "", "a wrong size of an array with no size,", PADDED);
+}
+
+/* ---- the numbers of tested enums: the head line `raw` of document 02 */
+
+#define RAW_PLAIN "raw=plain\n"
+#define NUMBERED "raw=numbered\n"
+#define ENUM(name, width, open, complete) "decl=enum\nname=" name "\nwidth=" width "\nopen=" open "\ncomplete=" complete "\n"
+#define MODE ENUM("Mode", "8", "0", "0")
+#define ENUMS MODE ENUM("Half", "4", "0", "0") ENUM("Any", "8", "1", "0") ENUM("Done", "8", "0", "1")
+#define FLAG(id) "field=flag\nid=" id "\nif=-\n" RESERVED("7")
+#define OCTET "span.read_le<uint8_t, 1>()"
+#define CHUNK "uint8_t chunk0 = " OCTET ";\n"
+#define TESTED(id, type, digits, bits) \
+    "auto raw_value" digits " = " bits ";\nif (!IsValid" type "(raw_value" digits ")) {\n   return false;\n}\n" id "_ = " type "(raw_value" digits ");\n"
+
+/* Lines with and without the digits: n is WITH or WITHOUT. */
+#define WITHOUT(digits) ""
+#define WITH(digits) digits
+#define TWO(n) CHECK("2") TESTED("a", "Mode", n("0"), OCTET) TESTED("b", "Mode", n("1"), OCTET)
+#define THREE(n) \
+    CHECK("2") CHUNK TESTED("a", "Half", n("0"), "(chunk0 >> 0) & 0xf") TESTED("b", "Half", n("1"), "(chunk0 >> 4) & 0xf") \
+        TESTED("d", "Mode", n("2"), OCTET)
+#define AROUND_AN_ARRAY(n) \
+    CHECK("1") TESTED("a", "Mode", n("0"), OCTET) CHECK("2") "x_ = span.subrange(0, 2);\nspan.skip(2);\n" CHECK("1") \
+        TESTED("b", "Mode", n("1"), OCTET)
+#define AROUND_AN_OPTIONAL(n) \
+    CHECK("2") "uint8_t c = " OCTET ";\n" TESTED("a", "Mode", n("0"), OCTET) \
+        "if (c == 1) {\n    if (span.size() < 1) {\n        return false;\n    }\n    auto raw_value = " OCTET ";\n" \
+        "    if (!IsValidMode(raw_value)) {\n       return false;\n    }\n    p_ = Mode(raw_value);\n}\n" CHECK("1") \
+            TESTED("b", "Mode", n("1"), OCTET)
+#define AROUND_OTHERS(n) \
+    CHECK("5") TESTED("a", "Mode", n("0"), OCTET) "o_ = Any(" OCTET ");\ng_ = Done(" OCTET ");\nif (Mode(" OCTET \
+        ") != Mode::OFF) {\n    return false;\n}\n" TESTED("b", "Mode", n("1"), OCTET)
+#define BEHIND_FLAGS(n) \
+    CHECK("3") CHUNK "uint8_t raw_value = (chunk0 >> 0) & 0x1;\nuint8_t chunk1 = " OCTET ";\nuint8_t raw_value0 = (chunk1 >> 0) & 0x1;\n" \
+        TESTED("raw_value1", "Mode", n("0"), OCTET)
+
+/* Fields, and their lines with the line absent or plain, and numbered. */
+static const struct {
+    const char *label, *fields, *plain, *numbered;
+} raws[] = {
+    {"one tested enum", TYPEDEF("a", "Mode"), CHECK("1") TESTED("a", "Mode", "", OCTET), CHECK("1") TESTED("a", "Mode", "0", OCTET)},
+    {"two", TYPEDEF("a", "Mode") TYPEDEF("b", "Mode"), TWO(WITHOUT), TWO(WITH)},
+    {"two in one chunk, and a third", TYPEDEF("a", "Half") TYPEDEF("b", "Half") TYPEDEF("d", "Mode"), THREE(WITHOUT), THREE(WITH)},
+    {"an array between", TYPEDEF("a", "Mode") ARRAY_OF("x", "Mode", "2") TYPEDEF("b", "Mode"), AROUND_AN_ARRAY(WITHOUT), AROUND_AN_ARRAY(WITH)},
+    {"an optional enum between",
+     SCALAR("c", "8") TYPEDEF("a", "Mode") "field=typedef\nid=p\ntype=Mode\nif=c\nis=1\n" TYPEDEF("b", "Mode"), AROUND_AN_OPTIONAL(WITHOUT),
+     AROUND_AN_OPTIONAL(WITH)},
+    {"open, complete and fixed enums between",
+     TYPEDEF("a", "Mode") TYPEDEF("o", "Any") TYPEDEF("g", "Done") "field=fixedenum\ntype=Mode\ntag=OFF\nif=-\n" TYPEDEF("b", "Mode"),
+     AROUND_OTHERS(WITHOUT), AROUND_OTHERS(WITH)},
+    {"names like the variables", FLAG("raw_value") FLAG("raw_value0") TYPEDEF("raw_value1", "Mode"), BEHIND_FLAGS(WITHOUT), BEHIND_FLAGS(WITH)},
+    {"a chunk that is dropped", TYPEDEF("a", "Half"), "", ""},
+    {"no enum", SCALAR("x", "8"), CHECK("1") "x_ = " OCTET ";\n", CHECK("1") "x_ = " OCTET ";\n"},
+};
+
+static const char *const plain_heads[] = {"", RAW_PLAIN, PLAIN, PLAIN RAW_PLAIN, PADDED RAW_PLAIN};
+static const char *const numbered_heads[] = {NUMBERED, PLAIN NUMBERED, PADDED NUMBERED};
+#define LENGTH(array) (sizeof(array) / sizeof(array)[0])
+
+static void test_raw_lines(const char *label, const char *const heads[], size_t n, const char *fields, const char *text)
+{
+    for (size_t i = 0; i < n; i++) {
+        char record[1024];
+        snprintf(record, sizeof record, HEAD "%s" ENUMS LAMP "%s", heads[i], fields);
+        expect_answer(record, 0, text, label, *heads[i] == 0 ? "no line" : heads[i]);
+    }
+}
+
+/* 64 tested enums, numbered from 0 to 63. */
+static void test_many_raws(const char *head, int has_numbers)
+{
+    static char record[8192], text[16384];
+    char *at = record + sprintf(record, HEAD "%s" MODE LAMP, head), *end = text + sprintf(text, CHECK("64"));
+    for (int i = 0; i < 64; i++) {
+        char digits[3] = "";
+        if (has_numbers)
+            snprintf(digits, sizeof digits, "%d", i);
+        at += sprintf(at, TYPEDEF("a", "Mode"));
+        end += sprintf(end, TESTED("a", "Mode", "%s", OCTET), digits, digits, digits);
+    }
+    expect_answer(record, 0, text, "64 tested enums", head);
+}
+
+/* A record with the line, cut behind each byte of it and of what follows; and with each of its bytes damaged. */
+static void test_cut_raw(void)
+{
+    static const char whole[] = HEAD PADDED NUMBERED MODE LAMP TYPEDEF("a", "Mode");
+    static const char head[] = HEAD PADDED, no_target[] = HEAD PADDED NUMBERED MODE, no_field[] = HEAD PADDED NUMBERED MODE LAMP;
+    for (size_t length = strlen(head); length < strlen(whole); length++) {
+        uint32_t answer = length == strlen(no_target) ? 9 : length == strlen(no_field) ? 0 : 2;
+        expect(gives_in_every_room((const uint8_t *)whole, length, answer, (const uint8_t *)"", 0), "raw=numbered, cut behind %zu bytes", length);
+    }
+    for (size_t i = strlen(head); i < strlen(HEAD PADDED NUMBERED); i++) {
+        uint8_t record[sizeof whole];
+        memcpy(record, whole, sizeof whole);
+        record[i] = 255;
+        expect(gives(record, strlen(whole), RUPHWENQO_LINES_ROOM, 2, record, 0), "raw=numbered with byte %zu damaged", i);
+    }
+}
+
+static const char *const no_raw[] = {
+    "raw=\n", "raw=-\n", "raw=Plain\n", "raw=Numbered\n", "raw=NUMBERED\n", "raw= numbered\n", "raw=numbered \n", "raw=numbered\r\n", "raw=numbere\n",
+    "raw=numberedd\n", "raw=plain0\n", "raw=0\n", "raw=plainnumbered\n", "raw=padded\n", "Raw=numbered\n", "ra=numbered\n", "raws=numbered\n",
+    " raw=numbered\n", "raw =numbered\n", "raw==numbered\n", "raw:numbered\n", "raw\n", "numbered\n", "trailing=numbered\n", "raw=numbered",
+    "\n" NUMBERED, NUMBERED "\n", RAW_PLAIN RAW_PLAIN, NUMBERED NUMBERED, RAW_PLAIN NUMBERED, NUMBERED RAW_PLAIN, RAW_PLAIN PLAIN, NUMBERED PADDED,
+    PADDED NUMBERED PADDED, PADDED NUMBERED NUMBERED, PADDED "raw=Numbered\n", PADDED "\n" NUMBERED, NUMBERED "arrays=lite\n",
+    NUMBERED "products=plain\n", "products=plain\n" NUMBERED,
+};
+
+static const struct {
+    const char *place, *record;
+} no_raw_places[] = {
+    {"first", NUMBERED HEAD LAMP},
+    {"before target", "endian=little\n" NUMBERED "target=Lamp\narrays=lite\n" LAMP},
+    {"before arrays", "endian=little\ntarget=Lamp\n" NUMBERED "arrays=lite\n" LAMP},
+    {"in place of arrays", "endian=little\ntarget=Lamp\n" NUMBERED LAMP},
+    {"before name", HEAD "decl=packet\n" NUMBERED "name=Lamp\nparent=-\n"},
+    {"before parent", HEAD "decl=packet\nname=Lamp\n" NUMBERED "parent=-\n"},
+    {"behind parent", HEAD LAMP NUMBERED},
+    {"behind bits", HEAD LAMP "bits=0\n" NUMBERED},
+    {"behind an enum", HEAD MODE NUMBERED LAMP},
+    {"inside a field", HEAD LAMP "field=body\n" NUMBERED "if=-\n"},
+    {"behind a field", HEAD LAMP "field=body\nif=-\n" NUMBERED},
+    {"before a second declaration", HEAD LAMP NUMBERED CELL},
+    {"in the head and at the end", HEAD NUMBERED LAMP NUMBERED},
+    {"before no declaration", HEAD NUMBERED},
+};
+
+static void test_raws(void)
+{
+    for (size_t i = 0; i < LENGTH(raws); i++) {
+        test_raw_lines(raws[i].label, plain_heads, LENGTH(plain_heads), raws[i].fields, raws[i].plain);
+        test_raw_lines(raws[i].label, numbered_heads, LENGTH(numbered_heads), raws[i].fields, raws[i].numbered);
+    }
+    test_many_raws("", 0);
+    test_many_raws(RAW_PLAIN, 0);
+    test_many_raws(NUMBERED, 1);
+    test_many_raws(PADDED NUMBERED, 1);
+    test_cut_raw();
+    for (size_t i = 0; i < LENGTH(no_raw); i++) {
+        char record[256];
+        snprintf(record, sizeof record, HEAD "%s" LAMP, no_raw[i]);
+        expect_answer(record, 2, "", "a head with", no_raw[i]);
+    }
+    for (size_t i = 0; i < LENGTH(no_raw_places); i++)
+        expect_answer(no_raw_places[i].record, 2, "", "a line `raw`", no_raw_places[i].place);
+    test_long_line(RAW_PLAIN);
+    test_long_line(NUMBERED);
+    test_long_line(PADDED NUMBERED);
+
+    /* full mode: an array has its own block */
+#define FULL_HEAD "endian=big\ntarget=Lamp\narrays=full\n"
+#define FULL_OCTET "span.read_be<uint8_t, 1>()"
+    expect_answer(FULL_HEAD NUMBERED MODE LAMP TYPEDEF("a", "Mode") ARRAY_OF("x", "Mode", "2") TYPEDEF("b", "Mode"), 0,
+                  CHECK("1") TESTED("output->a", "Mode", "0", FULL_OCTET) CHECK("2") "for (size_t n = 0; n < 2; n++) {\n    auto raw_value = " FULL_OCTET
+                      ";\n    if (!IsValidMode(raw_value)) {\n        return false;\n    }\n    output->x_[n] = Mode(raw_value);\n}\n" CHECK("1")
+                          TESTED("output->b", "Mode", "1", FULL_OCTET),
+                  "an array between, full,", NUMBERED);
+
+    /* 2 before 16 and 17, and these as ever */
+    expect_answer(HEAD "raw=Numbered\n" LAMP SCALAR("int", "8"), 2, "", "another word", "and a keyword");
+    expect_answer(HEAD NUMBERED LAMP SCALAR("int", "8"), 16, "", "a keyword,", NUMBERED);
+    expect_answer(HEAD NUMBERED MODE LAMP "bits=8\n" TYPEDEF("a", "Mode") TYPEDEF("b", "Mode"), 17, "", "a wrong size,", NUMBERED);
+    expect_answer(HEAD NUMBERED MODE LAMP "bits=16\n" TYPEDEF("a", "Mode") TYPEDEF("b", "Mode"), 0, TWO(WITH), "a right size,", NUMBERED);
+    expect_answer(HEAD NUMBERED MODE LAMP TYPEDEF("a", "Mode") SCALAR("y", "4"), 10, "", "an open chunk,", NUMBERED);
 }
 
 /* ---- the stored sample */
@@ -575,6 +741,7 @@ int main(int argc, char **argv)
     test_cut_stated();
     test_sizes();
     test_trailing();
+    test_raws();
     test_sample(sample, size);
     free(sample);
     printf("%u passed, %u failed\n", passed, failed);

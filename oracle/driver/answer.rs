@@ -1,11 +1,13 @@
 //! The answer to any byte string: our refusals 1 to 9, 16 and 17, then what the published Rust gives; for
-//! `trailing=padded` what it gives where later arrays count as document 02 (Card 3) says.
+//! `trailing=padded` what it gives where later arrays count as document 02 (Card 3) says, and for
+//! `raw=numbered` what it gives with the numbers of Card 7 in it.
 
 use crate::analyzer::{Schema, Scope};
 use crate::backends::{cxx, cxx_padded};
+use crate::numbered;
 use crate::panics::Panic;
 use crate::published;
-use crate::record::{Decl, Record, Trailing};
+use crate::record::{Decl, Raw, Record, Trailing};
 use crate::refusals::{self, Refusal};
 use crate::sizes::Tables;
 
@@ -44,7 +46,10 @@ pub fn lines_of(record: &Record) -> Answer {
         Some(Trailing::Padded) => cxx_padded::field_parser::lines,
     };
     match lines(&scope, &schema, record.arrays, target) {
-        Ok(code) => Ok(joined(&code)),
+        Ok(code) => match record.raw {
+            None | Some(Raw::Plain) => Ok(joined(&code)),
+            Some(Raw::Numbered) => Ok(joined(&numbered::lines(record, &code))),
+        },
         Err(panic) => Err(of_panic(record, panic)),
     }
 }

@@ -4,8 +4,11 @@
 use crate::analyzer::{self, ArraySize, ElementSize, Schema, Scope};
 use crate::answer::{self, Answer};
 use crate::keywords::is_like_a_keyword;
+use crate::numbered;
 use crate::published;
-use crate::record::{Arrays, Decl, DeclDesc, Element, Endian, Field, FieldDesc, Record, Stated, Trailing};
+use crate::record::{
+    Arrays, Decl, DeclDesc, Element, Endian, Field, FieldDesc, Raw, Record, Stated, Trailing,
+};
 use crate::sizes::{unpadded, DeclSizes, Size, Tables};
 use std::collections::BTreeSet;
 
@@ -16,6 +19,7 @@ pub fn features(bytes: &[u8], answer: &Answer) -> BTreeSet<String> {
             found.insert("answer 00".to_string());
             let record = Record::read(bytes).expect("it was accepted");
             of_accepted(&record, lines, &mut found);
+            found.extend(raws(&record, &String::from_utf8_lossy(lines)));
             found.extend(trailing(record, lines));
         }
         Err(refusal) => {
@@ -211,6 +215,41 @@ fn counted_padded(record: &Record) -> Vec<&'static str> {
         _ => "behind a payload or body",
     });
     notes
+}
+
+/// The line `raw` of an accepted record: how many variables have a number, and what stands beside them.
+fn raws(record: &Record, lines: &str) -> Vec<String> {
+    let word = match record.raw {
+        None => return Vec::new(),
+        Some(Raw::Plain) => return vec!["raw plain".to_string()],
+        Some(Raw::Numbered) => "raw numbered",
+    };
+    let has_number = |line: &str| numbered::digits_of(line).is_some();
+    let declared: Vec<(usize, &str)> =
+        lines.lines().enumerate().filter(|(_, line)| has_number(line)).collect();
+    let chunks: Vec<&str> =
+        declared.iter().filter_map(|(_, line)| Some(line.split_once("(chunk")?.1)).collect();
+    let chunk = |rest: &str| rest.split(' ').next().map(str::to_string);
+    let checks = lines.lines().enumerate().filter(|(_, line)| line.starts_with("if (span.size() < "));
+    let checks: Vec<usize> = checks.map(|(at, _)| at).collect();
+    let between = |pair: &[(usize, &str)]| checks.iter().any(|at| (pair[0].0..pair[1].0).contains(at));
+    let is_like_it = |name: &str| {
+        name.strip_prefix("raw_value").is_some_and(|rest| rest.bytes().all(|byte| byte.is_ascii_digit()))
+    };
+    let notes = [
+        (declared.is_empty(), "no number"),
+        (declared.len() == 1, "one number"),
+        ((2..=10).contains(&declared.len()), "2 to 10 numbers"),
+        (declared.len() > 10, "11 to 64 numbers"),
+        (chunks.windows(2).any(|pair| chunk(pair[0]) == chunk(pair[1])), "two in one chunk"),
+        (declared.windows(2).any(between), "a check between two"),
+        (!declared.is_empty() && lines.contains("\n    auto raw_value = "), "raw_value in a block too"),
+        (!declared.is_empty() && record.names().iter().any(|(_, name)| is_like_it(name)), "a name like them"),
+        (numbered::tested(record).len() > declared.len(), "a tested field is dropped"),
+        (record.trailing == Some(Trailing::Padded), "and trailing padded"),
+    ];
+    let notes = notes.into_iter().filter_map(|(holds, note)| holds.then(|| format!("{word}: {note}")));
+    notes.chain([word.to_string()]).collect()
 }
 
 /// The shapes of the target's arrays, alone and with their kind of element.

@@ -1,12 +1,13 @@
 //! Records by chance, from a seed. They follow the grammar of document 01 and lean towards
 //! acceptance: runs mostly fill whole octets, names are few so that fields really name each other.
 //! No name is a keyword of C++ but in the flavour that is about names, no line `bits` stands but in
-//! the one that is about sizes as they are stated, and both stand seldom in the one that is about the
-//! line `trailing`, which no other has.
+//! the one that is about sizes as they are stated, and no line `trailing` and `raw` but in those that are
+//! about these; where all four meet, the others stand seldom.
 
 use crate::damage;
 use crate::names;
 use crate::random::Random;
+use crate::raws;
 use crate::sketch::{self, DeclSketch, Sketch};
 use crate::stated;
 use crate::trailing;
@@ -30,9 +31,12 @@ pub enum Flavour {
     /// Fields that need a trailing size, with arrays behind them, and the others of document 01, under a head
     /// without the line `trailing`, with either word, or with a broken one. It stands behind the others too.
     Trailing,
+    /// Closed enums in bit fields, arrays and optional fields, and the others of document 01, under a head without the
+    /// line `raw`, with either word, or with a broken one; also beside a line `trailing`. It stands last.
+    Raws,
 }
 
-pub const FLAVOURS: [(&str, Flavour); 7] = [
+pub const FLAVOURS: [(&str, Flavour); 8] = [
     ("small", Flavour::Small),
     ("mixed", Flavour::Mixed),
     ("damaged", Flavour::Damaged),
@@ -40,6 +44,7 @@ pub const FLAVOURS: [(&str, Flavour); 7] = [
     ("names", Flavour::Names),
     ("stated", Flavour::Stated),
     ("trailing", Flavour::Trailing),
+    ("raws", Flavour::Raws),
 ];
 
 /// The records of a seed, one after the other.
@@ -60,6 +65,7 @@ fn record(flavour: Flavour, random: &mut Random) -> Vec<u8> {
         Flavour::Names => renamed(random),
         Flavour::Stated => with_sizes(random),
         Flavour::Trailing => with_trailing(random),
+        Flavour::Raws => with_raws(random),
     }
 }
 
@@ -114,6 +120,32 @@ fn with_trailing(random: &mut Random) -> Vec<u8> {
     }
     if !line.is_empty() && random.once_in(8) {
         trailing::break_line(&mut lines, random);
+    }
+    if random.once_in(24) {
+        return damage::damaged(lines, random);
+    }
+    sketch::joined(&lines)
+}
+
+fn with_raws(random: &mut Random) -> Vec<u8> {
+    let mut whole = match random.below(16) {
+        0 => mixed(random),
+        1 | 2 => small(random),
+        3 => trailing::sketch(random),
+        _ => raws::sketch(random),
+    };
+    let trailing = random.pick(&["", "", " plain", " padded"]);
+    let line = random.pick(&["", " raw=plain", " raw=numbered", " raw=numbered", " raw=numbered"]);
+    whole.head += &format!("{trailing}{line}");
+    let mut lines = if random.once_in(12) { stated::lines(&whole, random) } else { whole.lines() };
+    if random.once_in(8) {
+        names::put(random.pick(&raws::LIKE_RAW), &mut lines, random);
+    }
+    if random.once_in(32) {
+        names::rename(&mut lines, random);
+    }
+    if !line.is_empty() && random.once_in(8) {
+        raws::break_line(&mut lines, random);
     }
     if random.once_in(24) {
         return damage::damaged(lines, random);

@@ -26,13 +26,16 @@ mod later;
 mod lean;
 mod marked;
 mod marked_bits;
+mod marked_raws;
 mod marked_trailing;
 mod names;
+mod numbered;
 mod panics;
 #[cfg(port)]
 mod port;
 mod published;
 mod random;
+mod raws;
 mod record;
 mod refusals;
 mod sizes;
@@ -59,8 +62,10 @@ judge marked > CASES                 the marked cases of document 01, its faults
 judge keywords > CASES               the marked cases of refusal 16, each of its words among them
 judge bits > CASES                   the marked cases of refusal 17: sizes, order, form and length
 judge trailing > CASES               the marked cases of the line `trailing`: what counts, order, form and length
+judge raws > CASES                   the marked cases of the line `raw`: the numbers, names, order, form and length
 judge generate SEED COUNT FLAVOUR > CASES
-                                     cases by chance: small, mixed, damaged, sizes, names, stated or trailing
+                                     cases by chance: small, mixed, damaged, sizes, names, stated,
+                                     trailing or raws
 judge select EACH < CASES > CASES    those with a feature that fewer than EACH of document 01's
                                      marked cases and those chosen before show
 judge replay < CASES                 whether the stored answers are the judge's
@@ -88,6 +93,7 @@ fn main() -> Outcome {
         ["keywords"] => write_cases(marked::keyword_records()),
         ["bits"] => write_cases(marked_bits::records()),
         ["trailing"] => write_cases(marked_trailing::records()),
+        ["raws"] => write_cases(marked_raws::records()),
         ["generate", seed, count, flavour] => {
             write_cases(generate::records(named(flavour)?, seed.parse()?, count.parse()?))
         }
@@ -240,7 +246,12 @@ fn compare_port(seed: u64, count: usize) -> Outcome {
     let mut comparison = compare::Comparison::new();
     let mut differences = 0;
     let generated = FLAVOURS.iter().flat_map(|(_, flavour)| generate::records(*flavour, seed, count));
-    let of_requests = [marked::keyword_records(), marked_bits::records(), marked_trailing::records()];
+    let of_requests = [
+        marked::keyword_records(),
+        marked_bits::records(),
+        marked_trailing::records(),
+        marked_raws::records(),
+    ];
     let marked = marked::records().into_iter().chain(of_requests.into_iter().flatten());
     for record in marked.chain(generated) {
         let answer = answer(&record);

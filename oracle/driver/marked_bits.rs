@@ -1,6 +1,6 @@
 //! The marked cases of refusal 17 (document 02, Card 10): lines `bits` that are right, with what is
 //! beside each; the order among the refusals; the form; and the record's length. They are a list of their
-//! own, which stands behind all others in the stored sample.
+//! own, which stands behind those of refusal 16 in the stored sample.
 
 use crate::answer::answer;
 use crate::generate::BLOCK;

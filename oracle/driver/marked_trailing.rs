@@ -1,6 +1,6 @@
 //! The marked cases of the head's line `trailing` (document 02, Card 3): what later fields count, absent, plain and
 //! padded; where nothing changes; the order among the refusals; the form; and the record's length. They are a list of
-//! their own, which stands behind all others in the stored sample.
+//! their own, which stands behind those of `bits` in the stored sample.
 
 use crate::answer::{answer, Answer};
 use crate::generate::BLOCK;
@@ -377,36 +377,37 @@ fn forms() -> Vec<Vec<u8>> {
     all.extend(["trailing=plain\n", "trailing=padded\n"].map(|line| answered(0, with(line))));
     all.extend(BAD_VALUES.iter().map(|value| answered(2, with(&format!("trailing={value}\n")))));
     all.extend(BAD_STARTS.iter().map(|start| answered(2, with(&format!("{start}padded\n")))));
-    all.extend(BAD_LINES.iter().map(|lines| answered(2, with(lines))));
+    all.extend(LINES.iter().map(|(number, lines)| answered(*number, with(lines))));
     all.extend(BAD_PLACES.iter().map(|whole| answered(2, whole.as_bytes().to_vec())));
     all
 }
 
-/// Twice, with a line of a request that has not landed, without a newline, with one too many, and at the end.
-const BAD_LINES: &[&str] = &[
-    "trailing=plain\ntrailing=plain\n",
-    "trailing=padded\ntrailing=padded\n",
-    "trailing=plain\ntrailing=padded\n",
-    "trailing=padded\ntrailing=plain\n",
-    "raw=plain\n",
-    "raw=numbered\n",
-    "products=plain\n",
-    "products=divide\n",
-    "trailing=plain\nraw=plain\n",
-    "trailing=padded\nraw=numbered\n",
-    "raw=plain\ntrailing=padded\n",
-    "trailing=padded\nproducts=plain\n",
-    "trailing=padded\nbits=8\n",
-    "trailing=padded\narrays=lite\n",
-    "trailing=padded\nfield=body\nif=-\n",
-    "trailing=padded",
-    "trailing=plain",
-    "\ntrailing=padded\n",
-    "trailing=padded\n\n",
-    "trailing=padded\r\n",
-    "trailing=pad\nded\n",
-    "trailing\n=padded\n",
-    "trailing=plainpadded\n",
+/// Their answers: twice, beside the line `raw`, which stands behind it, beside one of a request that has not landed,
+/// without a newline, with one too many, and at the end.
+const LINES: &[(u8, &str)] = &[
+    (2, "trailing=plain\ntrailing=plain\n"),
+    (2, "trailing=padded\ntrailing=padded\n"),
+    (2, "trailing=plain\ntrailing=padded\n"),
+    (2, "trailing=padded\ntrailing=plain\n"),
+    (0, "raw=plain\n"),
+    (0, "raw=numbered\n"),
+    (2, "products=plain\n"),
+    (2, "products=divide\n"),
+    (0, "trailing=plain\nraw=plain\n"),
+    (0, "trailing=padded\nraw=numbered\n"),
+    (2, "raw=plain\ntrailing=padded\n"),
+    (2, "trailing=padded\nproducts=plain\n"),
+    (2, "trailing=padded\nbits=8\n"),
+    (2, "trailing=padded\narrays=lite\n"),
+    (2, "trailing=padded\nfield=body\nif=-\n"),
+    (2, "trailing=padded"),
+    (2, "trailing=plain"),
+    (2, "\ntrailing=padded\n"),
+    (2, "trailing=padded\n\n"),
+    (2, "trailing=padded\r\n"),
+    (2, "trailing=pad\nded\n"),
+    (2, "trailing\n=padded\n"),
+    (2, "trailing=plainpadded\n"),
 ];
 
 /// At every other place, alone and beside the right one; and a head with nothing behind it.

@@ -28,7 +28,7 @@ pub fn rename(lines: &mut [String], random: &mut Random) {
 
 /// At one place, behind each key alike, or in place of a name wherever this stands, so that fields
 /// still name each other.
-fn put(word: &str, lines: &mut [String], random: &mut Random) {
+pub fn put(word: &str, lines: &mut [String], random: &mut Random) {
     let behind = |key: &&str| (0..lines.len()).filter(|at| has_name(&lines[*at], key)).collect::<Vec<_>>();
     let places: Vec<Vec<usize>> = KEYS.iter().map(behind).filter(|places| !places.is_empty()).collect();
     let of_one_key = &places[random.below(places.len())];

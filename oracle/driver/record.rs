@@ -1,6 +1,6 @@
-//! The record of document 01, section 'The record', with the lines `trailing` and `bits` of document 02
-//! (Cards 3 and 10): its parts, and the reader of its form. Whatever departs from the form is refusal 2;
-//! the size of a number is not form (refusal 6), nor whether a size is stated rightly (refusal 17).
+//! The record of document 01, section 'The record', with the lines `trailing`, `raw` and `bits` of document
+//! 02 (Cards 3, 7 and 10): its parts, and the reader of its form. Whatever departs from the form is refusal
+//! 2; the size of a number is not form (refusal 6), nor whether a size is stated rightly (refusal 17).
 
 /// What of the form a record breaks, and at which key.
 pub type Flaw = String;
@@ -24,12 +24,21 @@ pub enum Trailing {
     Padded,
 }
 
+/// What the variable of a tested enum bit field is called: `raw_value`, or that with its number behind it.
+#[derive(Clone, Copy, PartialEq, Eq)]
+pub enum Raw {
+    Plain,
+    Numbered,
+}
+
 pub struct Record {
     pub endian: Endian,
     pub target: String,
     pub arrays: Arrays,
     /// The line `trailing`, which need not be there; without it the record is plain.
     pub trailing: Option<Trailing>,
+    /// The line `raw`, likewise.
+    pub raw: Option<Raw>,
     pub decls: Vec<Decl>,
 }
 
@@ -183,11 +192,12 @@ impl Record {
         let target = lines.name("target")?;
         let arrays = lines.read("arrays", arrays)?;
         let trailing = lines.read_if_there("trailing", trailing)?;
+        let raw = lines.read_if_there("raw", raw)?;
         let mut decls = vec![read_decl(&mut lines)?];
         while !lines.at_end() {
             decls.push(read_decl(&mut lines)?);
         }
-        Ok(Record { endian, target, arrays, trailing, decls })
+        Ok(Record { endian, target, arrays, trailing, raw, decls })
     }
 
     pub fn position(&self, name: &str) -> Option<usize> {
@@ -360,6 +370,14 @@ fn trailing(value: &[u8]) -> Result<Trailing, &'static str> {
     match value {
         b"plain" => Ok(Trailing::Plain),
         b"padded" => Ok(Trailing::Padded),
+        _ => Err("another word"),
+    }
+}
+
+fn raw(value: &[u8]) -> Result<Raw, &'static str> {
+    match value {
+        b"plain" => Ok(Raw::Plain),
+        b"numbered" => Ok(Raw::Numbered),
         _ => Err("another word"),
     }
 }

@@ -1,6 +1,6 @@
 -- Fields that are read at one of two places whose rests say the same are read at the other (`field-as`, `fields-as`).
 -- Assumes nothing.
-use mathlib.Core.Bool.{Bool, true, false}
+use mathlib.Core.Bool.{true, false}
 use mathlib.Core.List.{List, [], _∷_}
 use mathlib.Core.Path.{_≡_, refl, ap, _∙_, subst}
 use Prim.Native.Nat.{ℕ, zero, suc, _≤_, _<_}
@@ -20,10 +20,9 @@ use Rattle.definitions.specs.declared.DescRead.{DescRead}
 use Rattle.definitions.specs.declared.CondRead.{CondRead}
 use Rattle.definitions.specs.declared.FieldRead.{FieldRead}
 use Rattle.lengths.proofs.Booleans.{impossible}
-use Rattle.alike.specs.Without.{beginsBits}
 use Rattle.alike.proofs.Same.{SamePart, SameMaybe, SameDesc, SameCond, SameField, SameFields}
-use Rattle.alike.proofs.Rests.{start, inside, Rests, same-line}
-use Rattle.alike.proofs.Leaves.{fits, FoundAs, To, key-there, no-bits}
+use Rattle.alike.proofs.Rests.{LeftOut, isOut, start, inside, Rests, same-line}
+use Rattle.alike.proofs.Leaves.{fits, FoundAs, To, key-there, not-out}
 use Rattle.alike.proofs.Lines.{plain, Beyond, then-line, then-number, then-name, then-modifier, then-maybe-number, then-maybe-name}
 
 -- a pair, and so pairs in pairs
@@ -31,31 +30,31 @@ _&_ : {A B : Type 0} → A → B → A × B
 a & b = (a, b)
 
 infixr 20 _&_
-module _ (kept : Bool) (s t : Text) (n : ℕ) where
+module _ (out : LeftOut) (s t : Text) (n : ℕ) where
   abbrev DescAs : DescRead → DescRead → Type 0
   DescAs DescRead.Wrong r = Unit {0}
   DescAs (DescRead.Is d p) DescRead.Wrong = ⊥
-  DescAs (DescRead.Is d p) (DescRead.Is e q) = SameDesc s t d e × Beyond kept s t n p q
+  DescAs (DescRead.Is d p) (DescRead.Is e q) = SameDesc s t d e × Beyond out s t n p q
 
   abbrev CondAs : CondRead → CondRead → Type 0
   CondAs CondRead.Wrong r = Unit {0}
   CondAs (CondRead.Is c p) CondRead.Wrong = ⊥
-  CondAs (CondRead.Is c p) (CondRead.Is d q) = SameCond s t c d × Beyond kept s t n p q
+  CondAs (CondRead.Is c p) (CondRead.Is d q) = SameCond s t c d × Beyond out s t n p q
 
   abbrev pub FieldAs : FieldRead → FieldRead → Type 0
   FieldAs FieldRead.Wrong r = Unit {0}
   FieldAs (FieldRead.Is x p) FieldRead.Wrong = ⊥
-  FieldAs (FieldRead.Is x p) (FieldRead.Is y q) = SameField s t x y × Beyond kept s t n p q
+  FieldAs (FieldRead.Is x p) (FieldRead.Is y q) = SameField s t x y × Beyond out s t n p q
 
   -- ---- the kinds of a field
 
-  module _ (p q : ℕ) (k : Beyond kept s t n p q) where
+  module _ (p q : ℕ) (k : Beyond out s t n p q) where
     -- a name under a key, and a width
     named-width : (key : Text) → plain key ≡ true → (desc : Part → ℕ → FieldDesc)
         → ((a b : Part) (m : ℕ) → SamePart s t a b → SameDesc s t (desc a m) (desc b m)) → DescAs (namedWidth key desc s p) (namedWidth key desc t q)
     named-width key c desc h =
-        then-name kept s t n DescAs DescRead.Wrong (λ x. tt) p q k key c _ _ λ a b i j e u.
-        then-number kept s t n DescAs DescRead.Wrong (λ x. tt) i j u (text "width=") refl _ _ λ m x y v. (h a b m e, v)
+        then-name out s t n DescAs DescRead.Wrong (λ x. tt) p q k key c _ _ λ a b i j e u.
+        then-number out s t n DescAs DescRead.Wrong (λ x. tt) i j u (text "width=") refl _ _ λ m x y v. (h a b m e, v)
 
     scalar-as : DescAs (scalarAt s p) (scalarAt t q)
     unfolding scalarAt
@@ -79,8 +78,8 @@ module _ (kept : Bool) (s t : Text) (n : ℕ) where
         → DescAs (onName (nameLine s p key) DescRead.Wrong λ a i. onName (nameLine s i more) DescRead.Wrong λ c x. DescRead.Is (desc a c) x)
         (onName (nameLine t q key) DescRead.Wrong λ a i. onName (nameLine t i more) DescRead.Wrong λ c x. DescRead.Is (desc a c) x)
     named-twice key more f g desc h =
-        then-name kept s t n DescAs DescRead.Wrong (λ x. tt) p q k key f _ _ λ a b i j e u.
-        then-name kept s t n DescAs DescRead.Wrong (λ x. tt) i j u more g _ _ λ c d x y o v. (h a b c d e o, v)
+        then-name out s t n DescAs DescRead.Wrong (λ x. tt) p q k key f _ _ λ a b i j e u.
+        then-name out s t n DescAs DescRead.Wrong (λ x. tt) i j u more g _ _ λ c d x y o v. (h a b c d e o, v)
 
     fixed-enum-as : DescAs (fixedEnumAt s p) (fixedEnumAt t q)
     unfolding fixedEnumAt
@@ -93,34 +92,34 @@ module _ (kept : Bool) (s t : Text) (n : ℕ) where
     fixed-scalar-as : DescAs (fixedScalarAt s p) (fixedScalarAt t q)
     unfolding fixedScalarAt
     fixed-scalar-as =
-        then-number kept s t n DescAs DescRead.Wrong (λ x. tt) p q k (text "width=") refl _ _ λ m i j u.
-        then-number kept s t n DescAs DescRead.Wrong (λ x. tt) i j u (text "value=") refl _ _ λ o x y v. (SameDesc.fixedScalar, v)
+        then-number out s t n DescAs DescRead.Wrong (λ x. tt) p q k (text "width=") refl _ _ λ m i j u.
+        then-number out s t n DescAs DescRead.Wrong (λ x. tt) i j u (text "value=") refl _ _ λ o x y v. (SameDesc.fixedScalar, v)
 
     reserved-as : DescAs (reservedAt s p) (reservedAt t q)
     unfolding reservedAt
-    reserved-as = then-number kept s t n DescAs DescRead.Wrong (λ x. tt) p q k (text "width=") refl _ _ λ m i j u. (SameDesc.reserved, u)
+    reserved-as = then-number out s t n DescAs DescRead.Wrong (λ x. tt) p q k (text "width=") refl _ _ λ m i j u. (SameDesc.reserved, u)
 
     flag-as : DescAs (flagAt s p) (flagAt t q)
     unfolding flagAt
-    flag-as = then-name kept s t n DescAs DescRead.Wrong (λ x. tt) p q k (text "id=") refl _ _ λ a b i j e u. (SameDesc.flag e, u)
+    flag-as = then-name out s t n DescAs DescRead.Wrong (λ x. tt) p q k (text "id=") refl _ _ λ a b i j e u. (SameDesc.flag e, u)
 
     checksum-as : DescAs (checksumAt s p) (checksumAt t q)
     unfolding checksumAt
-    checksum-as = then-name kept s t n DescAs DescRead.Wrong (λ x. tt) p q k (text "of=") refl _ _ λ a b i j e u. (SameDesc.checksum e, u)
+    checksum-as = then-name out s t n DescAs DescRead.Wrong (λ x. tt) p q k (text "of=") refl _ _ λ a b i j e u. (SameDesc.checksum e, u)
 
     payload-as : DescAs (payloadAt s p) (payloadAt t q)
     unfolding payloadAt
-    payload-as = then-modifier kept s t n DescAs DescRead.Wrong (λ x. tt) p q k (text "mod=") refl _ _ λ m i j u. (SameDesc.payload, u)
+    payload-as = then-modifier out s t n DescAs DescRead.Wrong (λ x. tt) p q k (text "mod=") refl _ _ λ m i j u. (SameDesc.payload, u)
 
     padding-as : DescAs (paddingAt s p) (paddingAt t q)
     unfolding paddingAt
-    padding-as = then-number kept s t n DescAs DescRead.Wrong (λ x. tt) p q k (text "bytes=") refl _ _ λ m i j u. (SameDesc.padding, u)
+    padding-as = then-number out s t n DescAs DescRead.Wrong (λ x. tt) p q k (text "bytes=") refl _ _ λ m i j u. (SameDesc.padding, u)
 
     body-as : DescAs (bodyAt s p) (bodyAt t q)
     body-as = (SameDesc.body, k)
 
     one-as : (a b : Part) (width : MaybeNumber) (c d : MaybePart) (m : Modifier) (size : MaybeNumber) (i j : ℕ) → SamePart s t a b → SameMaybe s t c d
-        → Beyond kept s t n i j → DescAs (oneArray a width c m size i) (oneArray b width d m size j)
+        → Beyond out s t n i j → DescAs (oneArray a width c m size i) (oneArray b width d m size j)
     one-as a b MaybeNumber.None c d m size i j e SameMaybe.none u = tt
     one-as a b MaybeNumber.None c d m size i j e (SameMaybe.some o) u = (SameDesc.array e (SameMaybe.some o), u)
     one-as a b (MaybeNumber.Some w) c d m size i j e SameMaybe.none u = (SameDesc.array e SameMaybe.none, u)
@@ -129,21 +128,21 @@ module _ (kept : Bool) (s t : Text) (n : ℕ) where
     array-as : DescAs (arrayAt s p) (arrayAt t q)
     unfolding arrayAt arrayRest
     array-as =
-        then-name kept s t n DescAs DescRead.Wrong (λ x. tt) p q k (text "id=") refl _ _ λ a b p₁ q₁ e k₁.
-        then-maybe-number kept s t n DescAs DescRead.Wrong (λ x. tt) p₁ q₁ k₁ (text "width=") refl _ _ λ width p₂ q₂ k₂.
-        then-maybe-name kept s t n DescAs DescRead.Wrong (λ x. tt) p₂ q₂ k₂ (text "type=") refl _ _ λ c d p₃ q₃ o k₃.
-        then-modifier kept s t n DescAs DescRead.Wrong (λ x. tt) p₃ q₃ k₃ (text "mod=") refl _ _ λ m p₄ q₄ k₄.
-        then-maybe-number kept s t n DescAs DescRead.Wrong (λ x. tt) p₄ q₄ k₄ (text "count=") refl _ _ λ size i j u. one-as a b width c d m size i j e o u
+        then-name out s t n DescAs DescRead.Wrong (λ x. tt) p q k (text "id=") refl _ _ λ a b p₁ q₁ e k₁.
+        then-maybe-number out s t n DescAs DescRead.Wrong (λ x. tt) p₁ q₁ k₁ (text "width=") refl _ _ λ width p₂ q₂ k₂.
+        then-maybe-name out s t n DescAs DescRead.Wrong (λ x. tt) p₂ q₂ k₂ (text "type=") refl _ _ λ c d p₃ q₃ o k₃.
+        then-modifier out s t n DescAs DescRead.Wrong (λ x. tt) p₃ q₃ k₃ (text "mod=") refl _ _ λ m p₄ q₄ k₄.
+        then-maybe-number out s t n DescAs DescRead.Wrong (λ x. tt) p₄ q₄ k₄ (text "count=") refl _ _ λ size i j u. one-as a b width c d m size i j e o u
 
   -- each line of the table of kinds, and its keys
   abbrev KindsAs : Kinds → Type 0
   KindsAs [] = Unit {0}
-  KindsAs (x ∷ xs) = ((fits true (x .0) ≡ true) × ((p q : ℕ) → Beyond kept s t n p q → DescAs (x .1 s p) (x .1 t q))) × KindsAs xs
+  KindsAs (x ∷ xs) = ((fits true (x .0) ≡ true) × ((p q : ℕ) → Beyond out s t n p q → DescAs (x .1 s p) (x .1 t q))) × KindsAs xs
 
-  module _ (p q : ℕ) (r : Rests kept inside (drop p s) (drop q t)) (l : length (drop q t) ≤ n) where
+  module _ (p q : ℕ) (r : Rests out inside (drop p s) (drop q t)) (l : length (drop q t) ≤ n) where
     choose-as : (ks : Kinds) → KindsAs ks → DescAs (choose ks s (drop p s) p) (choose ks t (drop q t) q)
     choose-as [] k = tt
-    choose-as (x ∷ ks) k = then-line kept s t n DescAs p q r l (x .0) (k .0 .0) _ _ (choose-as ks (k .1)) (x .1 s) (x .1 t) (k .0 .1)
+    choose-as (x ∷ ks) k = then-line out s t n DescAs p q r l (x .0) (k .0 .0) _ _ (choose-as ks (k .1)) (x .1 s) (x .1 t) (k .0 .1)
 
     desc-as : DescAs (descAt s p) (descAt t q)
     unfolding descAt
@@ -155,18 +154,18 @@ module _ (kept : Bool) (s t : Text) (n : ℕ) where
 
   -- ---- a field: its kind, and `if`
 
-  cond-as : (p q : ℕ) → Beyond kept s t n p q → CondAs (condAt s p) (condAt t q)
+  cond-as : (p q : ℕ) → Beyond out s t n p q → CondAs (condAt s p) (condAt t q)
   unfolding condAt
-  cond-as p q k = then-maybe-name kept s t n CondAs CondRead.Wrong (λ x. tt) p q k (text "if=") refl _ _ by
+  cond-as p q k = then-maybe-name out s t n CondAs CondRead.Wrong (λ x. tt) p q k (text "if=") refl _ _ by
     where
-      by : (a b : MaybePart) (i j : ℕ) → SameMaybe s t a b → Beyond kept s t n i j
+      by : (a b : MaybePart) (i j : ℕ) → SameMaybe s t a b → Beyond out s t n i j
           → CondAs (onPart a (CondRead.Is Cond.None i) λ id. onNumber (numberLine s i (text "is=")) CondRead.Wrong λ v x. CondRead.Is (Cond.Some id v) x)
           (onPart b (CondRead.Is Cond.None j) λ id. onNumber (numberLine t j (text "is=")) CondRead.Wrong λ v x. CondRead.Is (Cond.Some id v) x)
       by a b i j SameMaybe.none u = (SameCond.none, u)
       by a b i j (SameMaybe.some e) u =
-          then-number kept s t n CondAs CondRead.Wrong (λ x. tt) i j u (text "is=") refl _ _ λ value x y v. (SameCond.some e, v)
+          then-number out s t n CondAs CondRead.Wrong (λ x. tt) i j u (text "is=") refl _ _ λ value x y v. (SameCond.some e, v)
 
-  pub field-as : (p q : ℕ) → Rests kept inside (drop p s) (drop q t) → length (drop q t) ≤ n → FieldAs (fieldAt s p) (fieldAt t q)
+  pub field-as : (p q : ℕ) → Rests out inside (drop p s) (drop q t) → length (drop q t) ≤ n → FieldAs (fieldAt s p) (fieldAt t q)
   unfolding fieldAt
   field-as p q r l = desc (descAt s p) (descAt t q) (desc-as p q r l)
     where
@@ -188,23 +187,23 @@ module _ (kept : Bool) (s t : Text) (n : ℕ) where
 
 -- ---- the fields that follow one another
 
-module _ (kept : Bool) (s t : Text) where
+module _ (out : LeftOut) (s t : Text) where
   -- an answer at `q`: the fields `xs` of the first text, behind which is `i`
   pub record ReadFields (answer : Fields) (q : ℕ) (xs : List Field) (i : ℕ) : Type 0 where
     pub fields : List Field
     pub end : ℕ
     pub read : answer ≡ fieldsAre fields end
     pub same : SameFields s t xs fields
-    pub rests : Rests kept inside (drop i s) (drop end t)
+    pub rests : Rests out inside (drop i s) (drop end t)
     pub less : length (drop end t) ≤ length (drop q t)
 
   -- no field
-  none-as : (f p q : ℕ) → Rests kept inside (drop p s) (drop q t) → keyAt s p (text "field=") ≡ Found.Nothing → ReadFields (fieldsAt t (suc f) q) q [] p
+  none-as : (f p q : ℕ) → Rests out inside (drop p s) (drop q t) → keyAt s p (text "field=") ≡ Found.Nothing → ReadFields (fieldsAt t (suc f) q) q [] p
   unfolding fieldsAt
   none-as f p q r h = by (keyAt s p (text "field=")) h (keyAt t q (text "field=")) refl
-      (key-there kept s t (suc (length (drop q t))) false (text "field=") p q refl (record { rests = r; less = omega arith }))
+      (key-there out s t (suc (length (drop q t))) false (text "field=") p q refl (record { rests = r; less = omega arith }))
     where
-      by : (a : Found) → a ≡ Found.Nothing → (b : Found) → keyAt t q (text "field=") ≡ b → FoundAs (To kept s t (suc (length (drop q t))) inside) a b
+      by : (a : Found) → a ≡ Found.Nothing → (b : Found) → keyAt t q (text "field=") ≡ b → FoundAs (To out s t (suc (length (drop q t))) inside) a b
           → ReadFields (fieldsAt t (suc f) q) q [] p
       by Found.Nothing e Found.Nothing g u =
           record {
@@ -219,15 +218,15 @@ module _ (kept : Bool) (s t : Text) where
       by (Found.At i) e b g u = impossible (cc)
 
   -- one more
-  more-as : (f p q : ℕ) (x y : Field) (xs : List Field) (j e : ℕ) → isFound (keyAt s p (text "field=")) ≡ true → Rests kept inside (drop p s) (drop q t)
+  more-as : (f p q : ℕ) (x y : Field) (xs : List Field) (j e : ℕ) → isFound (keyAt s p (text "field=")) ≡ true → Rests out inside (drop p s) (drop q t)
       → fieldAt t q ≡ FieldRead.Is y j → SameField s t x y → length (drop j t) < length (drop q t) → ReadFields (fieldsAt t f j) j xs e
       → ReadFields (fieldsAt t (suc f) q) q (x ∷ xs) e
   unfolding fieldsAt
   more-as f p q x y xs j e h r k c l w =
       by (keyAt s p (text "field=")) h (keyAt t q (text "field=")) refl
-      (key-there kept s t (suc (length (drop q t))) false (text "field=") p q refl (record { rests = r; less = omega arith }))
+      (key-there out s t (suc (length (drop q t))) false (text "field=") p q refl (record { rests = r; less = omega arith }))
     where
-      by : (a : Found) → isFound a ≡ true → (b : Found) → keyAt t q (text "field=") ≡ b → FoundAs (To kept s t (suc (length (drop q t))) inside) a b
+      by : (a : Found) → isFound a ≡ true → (b : Found) → keyAt t q (text "field=") ≡ b → FoundAs (To out s t (suc (length (drop q t))) inside) a b
           → ReadFields (fieldsAt t (suc f) q) q (x ∷ xs) e
       by (Found.At a) o (Found.At b) g u =
           record {
@@ -242,28 +241,28 @@ module _ (kept : Bool) (s t : Text) where
       by (Found.At a) o Found.Nothing g u = absurd u
       by Found.Nothing o b g u = impossible (cc)
 
-  -- read at the first, where what follows them is no line `bits`, and so at the second with fuel enough
-  pub fields-as : (f₁ f₂ p q : ℕ) (xs : List Field) (i : ℕ) → fieldsAt s f₁ p ≡ fieldsAre xs i → beginsBits (drop i s) ≡ false
-      → Rests kept start (drop p s) (drop q t) → length (drop q t) < f₂ → ReadFields (fieldsAt t f₂ q) q xs i
+  -- read at the first, where what follows them is no line that is left out, and so at the second with fuel enough
+  pub fields-as : (f₁ f₂ p q : ℕ) (xs : List Field) (i : ℕ) → fieldsAt s f₁ p ≡ fieldsAre xs i → isOut out (drop i s) ≡ false
+      → Rests out start (drop p s) (drop q t) → length (drop q t) < f₂ → ReadFields (fieldsAt t f₂ q) q xs i
   unfolding fieldsAt
   fields-as zero f₂ p q xs i e c r l = impossible (cc)
   fields-as (suc f₁) zero p q xs i e c r l = absurd (omega arith)
   fields-as (suc f₁) (suc f₂) p q xs i e c r l = first (keyAt s p (text "field=")) refl (fields-as f₁ f₂) e
     where
       Later : Type 0
-      Later = (p q : ℕ) (xs : List Field) (i : ℕ) → fieldsAt s f₁ p ≡ fieldsAre xs i → beginsBits (drop i s) ≡ false
-          → Rests kept start (drop p s) (drop q t) → length (drop q t) < f₂ → ReadFields (fieldsAt t f₂ q) q xs i
+      Later = (p q : ℕ) (xs : List Field) (i : ℕ) → fieldsAt s f₁ p ≡ fieldsAre xs i → isOut out (drop i s) ≡ false
+          → Rests out start (drop p s) (drop q t) → length (drop q t) < f₂ → ReadFields (fieldsAt t f₂ q) q xs i
 
       rest : Later → isFound (keyAt s p (text "field=")) ≡ true → (x y : Field) (p₁ q₁ : ℕ) → fieldAt t q ≡ FieldRead.Is y q₁ → SameField s t x y
-          → Beyond kept s t (length (drop q t)) p₁ q₁ → (zs : Fields) → fieldsAt s f₁ p₁ ≡ zs → withField x zs ≡ fieldsAre xs i
+          → Beyond out s t (length (drop q t)) p₁ q₁ → (zs : Fields) → fieldsAt s f₁ p₁ ≡ zs → withField x zs ≡ fieldsAre xs i
           → ReadFields (fieldsAt t (suc f₂) q) q xs i
       rest ih h x y p₁ q₁ g o k noFields d z = impossible (cc)
       rest ih h x y p₁ q₁ g o k (fieldsAre zs a) d z =
           subst (λ (l : List Field). ReadFields (fieldsAt t (suc f₂) q) q l i) (let v : x ∷ zs ≡ xs = cc in v)
-          (more-as f₂ p q x y zs q₁ i h (same-line (no-bits s p (text "field=") refl h) r) g o (k .less)
+          (more-as f₂ p q x y zs q₁ i h (same-line (not-out out s p (text "field=") refl h) r) g o (k .less)
           (ih p₁ q₁ zs i (let v : fieldsAt s f₁ p₁ ≡ fieldsAre zs i = cc in v) c (k .rests) (omega (arith, k .less))))
 
-      one : Later → isFound (keyAt s p (text "field=")) ≡ true → (a b : FieldRead) → fieldAt t q ≡ b → FieldAs kept s t (length (drop q t)) a b
+      one : Later → isFound (keyAt s p (text "field=")) ≡ true → (a b : FieldRead) → fieldAt t q ≡ b → FieldAs out s t (length (drop q t)) a b
           → (onField a noFields λ x j. withField x (fieldsAt s f₁ j)) ≡ fieldsAre xs i → ReadFields (fieldsAt t (suc f₂) q) q xs i
       one ih h FieldRead.Wrong b g u z = impossible (cc)
       one ih h (FieldRead.Is x p₁) FieldRead.Wrong g u z = absurd u
@@ -275,7 +274,7 @@ module _ (kept : Bool) (s t : Text) where
       first Found.Nothing h ih z =
           subst (λ (l : List Field). ReadFields (fieldsAt t (suc f₂) q) q l i) (let v : [] ≡ xs = cc in v)
           (subst (ReadFields (fieldsAt t (suc f₂) q) q []) (let v : p ≡ i = cc in v)
-          (none-as f₂ p q (same-line (ap (λ (a : ℕ). beginsBits (drop a s)) (let v : p ≡ i = cc in v) ∙ c) r) h))
+          (none-as f₂ p q (same-line (ap (λ (a : ℕ). isOut out (drop a s)) (let v : p ≡ i = cc in v) ∙ c) r) h))
       first (Found.At b) h ih z =
           one ih (ap isFound h) (fieldAt s p) (fieldAt t q) refl
-          (field-as kept s t (length (drop q t)) p q (same-line (no-bits s p (text "field=") refl (ap isFound h)) r) (omega arith)) z
+          (field-as out s t (length (drop q t)) p q (same-line (not-out out s p (text "field=") refl (ap isFound h)) r) (omega arith)) z

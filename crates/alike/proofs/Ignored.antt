@@ -2,24 +2,19 @@
 -- same bytes (`bits-ignored`); and whatever two records answer that differ only in such lines, it is the same unless one answers 1, 2 or 17 (`bits-apart`).
 -- Assumes nothing.
 use mathlib.Core.Bool.{Bool, true, false}
-use mathlib.Core.List.{List}
 use mathlib.Core.Logic.{_⊎_, inl, inr}
 use mathlib.Core.Path.{_≡_, refl, sym, ap, _∙_}
 use Prim.Native.Nat.{ℕ}
 use native.Mathlib.Omega.{arith}
-use borrow.Author.Tests.{ltb-false, le-ltb}
-use lib.Dec.{ltb, eqb}
 use lib.ListN.{length}
 use Rattle.definitions.specs.Bytes.{Text}
-use Rattle.definitions.specs.Record.{Declaration, RecordRead, recordIs, noRecord, readRecord}
+use Rattle.definitions.specs.Record.{RecordRead, recordIs, noRecord, readRecord}
 use Rattle.definitions.specs.Sizes.{newSchema}
 use Rattle.definitions.specs.FieldParser.{Outcome, refused}
 use Rattle.definitions.specs.Answer.{Lowered, lowerRecord, answerRead, wrongLength, answer, lowered, lower, word, bufferAfter}
-use Rattle.definitions.specs.declared.Head.{Head}
 use Rattle.definitions.specs.declared.Refusal.{Refusal}
-use Rattle.lengths.proofs.Booleans.{neither}
 use Rattle.alike.specs.Without.{withoutBits, Apart}
-use Rattle.alike.proofs.Reading.{reads-without, no-longer, not-empty}
+use Rattle.alike.proofs.Reading.{reads-without, no-longer, not-empty, length-right}
 use Rattle.alike.proofs.Records.{same-record, no-bits}
 
 -- ---- a record, and what is left of it without its lines `bits`
@@ -27,11 +22,6 @@ use Rattle.alike.proofs.Records.{same-record, no-bits}
 -- one of the three refusals that such a line can bring
 abbrev Its : Outcome → Type 0
 Its o = (o ≡ refused Refusal.RecordLength) ⊎ ((o ≡ refused Refusal.RecordForm) ⊎ (o ≡ refused Refusal.Misstated))
-
-length-right : (s : Text) (h : Head) (ds : List Declaration) → readRecord s ≡ recordIs h ds → wrongLength s ≡ false → wrongLength (withoutBits s) ≡ false
-length-right s h ds e w =
-    let k = neither (eqb (length s) 0) (ltb 16384 (length s)) w in
-    rw (not-empty s h ds e, le-ltb 16384 (length (withoutBits s)) (omega (arith, no-longer s, ltb-false 16384 (length s) (k .1))))
 
 answer-without : (s : Text) → Its (answer s) ⊎ (answer s ≡ answer (withoutBits s))
 unfolding answer
@@ -46,7 +36,7 @@ answer-without s = by (wrongLength s) refl
     read (recordIs h ds) e w =
         let t = reads-without s h ds e in
         sum (same-record s (withoutBits s) h (t .0) ds (t .1) (t .3) (t .4) (no-bits (withoutBits s) ds (t .1) (t .5)))
-        (rw (length-right s h ds e w, t .2) refl)
+        (rw (length-right s (withoutBits s) (no-longer s) (not-empty s h ds e) w, t .2) refl)
       where
         sum : {o p : Outcome} → (lowerRecord s h ds (newSchema s ds) ≡ refused Refusal.Misstated) ⊎ (lowerRecord s h ds (newSchema s ds) ≡ o) → o ≡ p
             → Its (lowerRecord s h ds (newSchema s ds)) ⊎ (lowerRecord s h ds (newSchema s ds) ≡ p)

@@ -15,9 +15,9 @@ use Rattle.definitions.specs.declared.Found.{Found}
 use Rattle.definitions.specs.declared.NumberRead.{NumberRead}
 use Rattle.definitions.specs.declared.NameRead.{NameRead}
 use Rattle.lengths.proofs.Booleans.{impossible}
-use Rattle.alike.specs.Without.{beginsBits}
+use Rattle.alike.specs.Without.{begins}
 use Rattle.alike.proofs.Same.{SamePart}
-use Rattle.alike.proofs.Rests.{Place, start, inside, away, behind, Rests, done, gone, next, skip, same, cut}
+use Rattle.alike.proofs.Rests.{LeftOut, isOut, Place, start, inside, away, behind, Rests, done, gone, next, skip, same, cut, nothing-out}
 
 -- ---- keys: a newline at the end, where `b`, and nowhere else
 
@@ -80,17 +80,17 @@ found-same R (Found.At p) Found.Nothing h = absurd h
 found-same R Found.Nothing (Found.At q) h = absurd h
 found-same R Found.Nothing Found.Nothing h = refl
 
-module _ (kept : Bool) (s t : Text) (n : ℕ) where
+module _ (out : LeftOut) (s t : Text) (n : ℕ) where
   -- rests that say the same, the second of them shorter than n
   pub record To (m : Place) (p q : ℕ) : Type 0 where
-    pub rests : Rests kept m (drop p s) (drop q t)
+    pub rests : Rests out m (drop p s) (drop q t)
     pub less : length (drop q t) < n
 
-  to : (m : Place) (p q : ℕ) (u v : Text) → drop p s ≡ u → drop q t ≡ v → length v < n → Rests kept m u v → To m p q
+  to : (m : Place) (p q : ℕ) (u v : Text) → drop p s ≡ u → drop q t ≡ v → length v < n → Rests out m u v → To m p q
   to m p q u v e g l r = record { rests = rw (e, g) r; less = rw g l }
 
   key-inside : (b : Bool) (key : Text) {u v : Text} (p q : ℕ) → fits b key ≡ true → drop p s ≡ u → drop q t ≡ v → length v < n + length key
-      → Rests kept inside u v → FoundAs (To (behind b inside)) (keyOf key u p) (keyOf key v q)
+      → Rests out inside u v → FoundAs (To (behind b inside)) (keyOf key u p) (keyOf key v q)
   unfolding keyOf
   key-inside true [] {u} {v} p q f e g l r = impossible (cc)
   key-inside false [] {u} {v} p q f e g l r = to inside p q u v e g (omega arith) r
@@ -107,23 +107,23 @@ module _ (kept : Bool) (s t : Text) (n : ℕ) where
       newline : eqb x k ≡ true → eqb x 10 ≡ eqb k 10
       newline h = ap (λ (y : ℕ). eqb y 10) (eqb-true x k h)
 
-      last : (c : Bool) (ls : Text) → (c && isNil ls) ≡ true → Rests kept start u v → length v < n + length ls
+      last : (c : Bool) (ls : Text) → (c && isNil ls) ≡ true → Rests out start u v → length v < n + length ls
           → FoundAs (To (behind c inside)) (keyOf ls u (p + 1)) (keyOf ls v (q + 1))
       last true [] h w i = to start (p + 1) (q + 1) u v e₁ g₁ (omega arith) w
       last true (z ∷ ls) h w i = impossible (cc)
       last false ls h w i = impossible (cc)
 
       by : (c : Bool) → eqb x k ≡ c → (d : Bool) → eqb k 10 ≡ d
-          → (fits b ks ≡ true → drop (p + 1) s ≡ u → drop (q + 1) t ≡ v → length v < n + length ks → Rests kept inside u v
+          → (fits b ks ≡ true → drop (p + 1) s ≡ u → drop (q + 1) t ≡ v → length v < n + length ks → Rests out inside u v
           → FoundAs (To (behind b inside)) (keyOf ks u (p + 1)) (keyOf ks v (q + 1)))
           → pick d (b && isNil ks) (fits b ks) ≡ true
           → FoundAs (To (behind b inside)) (elim c [ true ↦ keyOf ks u (p + 1) | false ↦ Found.Nothing ])
           (elim c [ true ↦ keyOf ks v (q + 1) | false ↦ Found.Nothing ])
       by false h d i ih j = tt
       by true h true i ih j =
-          last b ks j (subst (λ (y : Bool). Rests kept (behind y inside) u v) (newline h ∙ i) r) (omega arith)
+          last b ks j (subst (λ (y : Bool). Rests out (behind y inside) u v) (newline h ∙ i) r) (omega arith)
       by true h false i ih j =
-          ih j e₁ g₁ (omega arith) (subst (λ (y : Bool). Rests kept (behind y inside) u v) (newline h ∙ i) r)
+          ih j e₁ g₁ (omega arith) (subst (λ (y : Bool). Rests out (behind y inside) u v) (newline h ∙ i) r)
 
   -- a key that is read inside of a line
   pub key-there : (b : Bool) (key : Text) (p q : ℕ) → fits b key ≡ true → To inside p q
@@ -131,14 +131,14 @@ module _ (kept : Bool) (s t : Text) (n : ℕ) where
   key-there b key p q f k = key-inside b key p q f refl refl (omega (arith, k .less)) (k .rests)
 
   -- a line that is read first: it takes a byte or more
-  pub line-first : (key : Text) (p q : ℕ) → fits true key ≡ true → Rests kept inside (drop p s) (drop q t) → length (drop q t) ≤ n
+  pub line-first : (key : Text) (p q : ℕ) → fits true key ≡ true → Rests out inside (drop p s) (drop q t) → length (drop q t) ≤ n
       → FoundAs (To start) (keyAt s p key) (keyAt t q key)
   line-first [] p q f r l = impossible (cc)
   line-first (k ∷ ks) p q f r l = key-inside true (k ∷ ks) p q f refl refl (omega arith) r
 
   -- ---- a number
 
-  digits-inside : (u v : Text) (value p q : ℕ) → drop p s ≡ u → drop q t ≡ v → length v < n → Rests kept inside u v
+  digits-inside : (u v : Text) (value p q : ℕ) → drop p s ≡ u → drop q t ≡ v → length v < n → Rests out inside u v
       → NumberAs (To start) (digitsOf u value p) (digitsOf v value q)
   unfolding digitsOf
   digits-inside [] v value p q e g l r = tt
@@ -147,7 +147,7 @@ module _ (kept : Bool) (s t : Text) (n : ℕ) where
       (digitsOf w (value * 10 + (x - 48)) (q + 1)) r
       (digits-inside u w (value * 10 + (x - 48)) (p + 1) (q + 1) (rest-behind s p x u e) (rest-behind t q x w g) (omega arith))
     where
-      by : (a b c d : Bool) (i j : NumberRead) → Rests kept (behind a inside) u w → (Rests kept inside u w → NumberAs (To start) i j)
+      by : (a b c d : Bool) (i j : NumberRead) → Rests out (behind a inside) u w → (Rests out inside u w → NumberAs (To start) i j)
           → NumberAs (To start) (elim a [
             | true ↦ NumberRead.Is value (p + 1)
             | false ↦ elim b [
@@ -168,7 +168,7 @@ module _ (kept : Bool) (s t : Text) (n : ℕ) where
       by false true false true i j k h = h k
       by false true false false i j k h = tt
 
-  number-inside : (u v : Text) (p q : ℕ) → drop p s ≡ u → drop q t ≡ v → length v < n → Rests kept inside u v
+  number-inside : (u v : Text) (p q : ℕ) → drop p s ≡ u → drop q t ≡ v → length v < n → Rests out inside u v
       → NumberAs (To start) (numberOf u p) (numberOf v q)
   unfolding numberOf
   number-inside [] v p q e g l r = tt
@@ -180,7 +180,7 @@ module _ (kept : Bool) (s t : Text) (n : ℕ) where
       by false h = tt
       by true h =
           digits-inside u w (x - 48) (p + 1) (q + 1) (rest-behind s p x u e) (rest-behind t q x w g) (omega arith)
-          (subst (λ (y : Bool). Rests kept (behind y inside) u w) (digit-only x h) r)
+          (subst (λ (y : Bool). Rests out (behind y inside) u w) (digit-only x h) r)
 
   pub number-there : (p q : ℕ) → To inside p q → NumberAs (To start) (numberAt s p) (numberAt t q)
   number-there p q k = number-inside (drop p s) (drop q t) p q refl refl (k .less) (k .rests)
@@ -188,7 +188,7 @@ module _ (kept : Bool) (s t : Text) (n : ℕ) where
   -- ---- a name
 
   word-inside : (u v : Text) (from₁ from₂ c p q : ℕ) → from₁ ≤ p → from₂ ≤ q → drop p s ≡ u → drop q t ≡ v → length v < n
-      → SamePart s t (partOf from₁ p) (partOf from₂ q) → Rests kept inside u v → NameAs (To start) s t (wordOf u from₁ c p) (wordOf v from₂ c q)
+      → SamePart s t (partOf from₁ p) (partOf from₂ q) → Rests out inside u v → NameAs (To start) s t (wordOf u from₁ c p) (wordOf v from₂ c q)
   unfolding wordOf
   word-inside [] v from₁ from₂ c p q h₁ h₂ e g l k r = tt
   word-inside (x ∷ u) v from₁ from₂ c p q h₁ h₂ e g l k (next {v = w} r) =
@@ -196,7 +196,7 @@ module _ (kept : Bool) (s t : Text) (n : ℕ) where
       (word-inside u w from₁ from₂ (c + 1) (p + 1) (q + 1) (omega arith) (omega arith) (rest-behind s p x u e) (rest-behind t q x w g) (omega arith)
       (part-grows s from₁ p x u h₁ e ∙ ap (λ (y : Text). y ++ (x ∷ [])) k ∙ sym (part-grows t from₂ q x w h₂ g)))
     where
-      by : (a b d : Bool) (i j : NameRead) → Rests kept (behind a inside) u w → (Rests kept inside u w → NameAs (To start) s t i j)
+      by : (a b d : Bool) (i j : NameRead) → Rests out (behind a inside) u w → (Rests out inside u w → NameAs (To start) s t i j)
           → NameAs (To start) s t (elim a [
             | true ↦ NameRead.Is (partOf from₁ p) (p + 1)
             | false ↦ elim b [ true ↦ NameRead.Wrong | false ↦ elim d [ true ↦ i | false ↦ NameRead.Wrong ] ]
@@ -210,7 +210,7 @@ module _ (kept : Bool) (s t : Text) (n : ℕ) where
       by false false true i j o h = h o
       by false false false i j o h = tt
 
-  name-inside : (u v : Text) (p q : ℕ) → drop p s ≡ u → drop q t ≡ v → length v < n → Rests kept inside u v
+  name-inside : (u v : Text) (p q : ℕ) → drop p s ≡ u → drop q t ≡ v → length v < n → Rests out inside u v
       → NameAs (To start) s t (nameOf u p) (nameOf v q)
   unfolding nameOf
   name-inside [] v p q e g l r = tt
@@ -230,26 +230,26 @@ module _ (kept : Bool) (s t : Text) (n : ℕ) where
       by false true i j h = tt
       by false false i j h = h
 
-  digits-line-same : (u v : Text) → Rests kept inside u v → digitsLine u ≡ digitsLine v
+  digits-line-same : (u v : Text) → Rests out inside u v → digitsLine u ≡ digitsLine v
   unfolding digitsLine
   digits-line-same [] v done = refl
   digits-line-same (x ∷ u) v (next {v = w} r) = by (eqb x 10) (isDigit x) r (digits-line-same u w)
     where
-      by : (a b : Bool) → Rests kept (behind a inside) u w → (Rests kept inside u w → digitsLine u ≡ digitsLine w)
+      by : (a b : Bool) → Rests out (behind a inside) u w → (Rests out inside u w → digitsLine u ≡ digitsLine w)
           → _≡_ {A = Bool} (elim a [ true ↦ true | false ↦ elim b [ true ↦ digitsLine u | false ↦ false ] ])
           (elim a [ true ↦ true | false ↦ elim b [ true ↦ digitsLine w | false ↦ false ] ])
       by true b k h = refl
       by false true k h = h k
       by false false k h = refl
 
-  some-digits-same : (u v : Text) → Rests kept inside u v → someDigits u ≡ someDigits v
+  some-digits-same : (u v : Text) → Rests out inside u v → someDigits u ≡ someDigits v
   unfolding someDigits
   some-digits-same [] v done = refl
   some-digits-same (x ∷ u) v (next {v = w} r) = by (isDigit x) refl
     where
       by : (a : Bool) → isDigit x ≡ a
           → _≡_ {A = Bool} (elim a [ true ↦ digitsLine u | false ↦ false ]) (elim a [ true ↦ digitsLine w | false ↦ false ])
-      by true h = digits-line-same u w (subst (λ (y : Bool). Rests kept (behind y inside) u w) (digit-only x h) r)
+      by true h = digits-line-same u w (subst (λ (y : Bool). Rests out (behind y inside) u w) (digit-only x h) r)
       by false h = refl
 
   forbidden-same : (p q : ℕ) → To inside p q → isForbidden s p ≡ isForbidden t q
@@ -279,7 +279,7 @@ module _ (kept : Bool) (s t : Text) (n : ℕ) where
       by false true e h = impossible (cc)
       by false false e h = h
 
--- ---- beginning with `bits=`
+-- ---- beginning with a key
 
 -- whether a key is there, wherever that is
 found-anywhere : (key u : Text) (p q : ℕ) → isFound (keyOf key u p) ≡ isFound (keyOf key u q)
@@ -293,9 +293,26 @@ found-anywhere (k ∷ ks) (x ∷ u) p q = by (eqb x k) (found-anywhere ks u (p +
     by true h = h
     by false h = refl
 
-pub bits-there : (s : Text) (p : ℕ) → isFound (keyAt s p (text "bits=")) ≡ beginsBits (drop p s)
-unfolding beginsBits
-bits-there s p = found-anywhere (text "bits=") (drop p s) p 0
+pub key-begins : (s : Text) (p : ℕ) (key : Text) → isFound (keyAt s p key) ≡ begins key (drop p s)
+unfolding begins
+key-begins s p key = found-anywhere key (drop p s) p 0
+
+-- a key is not there where its beginning is not
+longer : (ks ls u : Text) (p q : ℕ) → isFound (keyOf ks u q) ≡ false → keyOf (ks ++ ls) u p ≡ Found.Nothing
+unfolding keyOf
+longer [] ls u p q h = impossible (cc)
+longer (k ∷ ks) ls [] p q h = refl
+longer (k ∷ ks) ls (x ∷ u) p q h = by (eqb x k) h (longer ks ls u (p + 1) (q + 1))
+  where
+    by : (b : Bool) → isFound (elim b [ true ↦ keyOf ks u (q + 1) | false ↦ Found.Nothing ]) ≡ false
+        → (isFound (keyOf ks u (q + 1)) ≡ false → keyOf (ks ++ ls) u (p + 1) ≡ Found.Nothing)
+        → _≡_ {A = Found} (elim b [ true ↦ keyOf (ks ++ ls) u (p + 1) | false ↦ Found.Nothing ]) Found.Nothing
+    by true i ih = ih i
+    by false i ih = refl
+
+pub longer-key : (s : Text) (p : ℕ) (key more : Text) → begins key (drop p s) ≡ false → keyAt s p (key ++ more) ≡ Found.Nothing
+unfolding begins
+longer-key s p key more h = longer key more (drop p s) p 0 h
 
 -- of two keys that differ, one is not there
 not-both : (ks ls u : Text) (p q : ℕ) → differ ks ls ≡ true → isFound (keyOf ls u q) ≡ true → keyOf ks u p ≡ Found.Nothing
@@ -316,45 +333,66 @@ not-both (k ∷ ks) (l ∷ ls) (x ∷ u) p q d h = by (eqb x k) refl (eqb x l) r
     by true e false g i j ih = impossible (cc)
     by true e true g i j ih = ih (subst (λ (b : Bool). pick b (differ ks ls) true ≡ true) (same-byte e g) i) j
 
-pub other-key : (s : Text) (p : ℕ) (key : Text) → differ key (text "bits=") ≡ true → beginsBits (drop p s) ≡ true → keyAt s p key ≡ Found.Nothing
-unfolding beginsBits
-other-key s p key d h = not-both key (text "bits=") (drop p s) p 0 d h
+pub differing-key : (s : Text) (p : ℕ) (key other : Text) → differ key other ≡ true → begins other (drop p s) ≡ true → keyAt s p key ≡ Found.Nothing
+unfolding begins
+differing-key s p key other d h = not-both key other (drop p s) p 0 d h
 
--- a key that is there is not `bits=`
-pub no-bits : (s : Text) (p : ℕ) (key : Text) → differ key (text "bits=") ≡ true → isFound (keyAt s p key) ≡ true → beginsBits (drop p s) ≡ false
-no-bits s p key d h = by (beginsBits (drop p s)) refl
+-- ---- lines that are left out, and the keys of others
+
+-- of no line that may be left out
+abbrev pub apart : Text → Bool
+apart key = differ key (text "bits=") && differ key (text "raw=")
+
+pub both : (a b : Bool) → (a && b) ≡ true → (a ≡ true) × (b ≡ true)
+both true b e = (refl, e)
+both false b e = impossible (cc)
+
+pub other-key : (out : LeftOut) (s : Text) (p : ℕ) (key : Text) → apart key ≡ true → isOut out (drop p s) ≡ true → keyAt s p key ≡ Found.Nothing
+other-key LeftOut.none s p key d h = impossible (cc)
+other-key LeftOut.bits s p key d h = differing-key s p key (text "bits=") (both (differ key (text "bits=")) (differ key (text "raw=")) d .0) h
+other-key LeftOut.raw s p key d h = differing-key s p key (text "raw=") (both (differ key (text "bits=")) (differ key (text "raw=")) d .1) h
+
+-- where another key is there, none is left out
+pub not-out : (out : LeftOut) (s : Text) (p : ℕ) (key : Text) → apart key ≡ true → isFound (keyAt s p key) ≡ true → isOut out (drop p s) ≡ false
+not-out out s p key d h = by (isOut out (drop p s)) refl
   where
-    by : (b : Bool) → beginsBits (drop p s) ≡ b → b ≡ false
-    by true e = impossible (cc (other-key s p key d e))
+    by : (b : Bool) → isOut out (drop p s) ≡ b → b ≡ false
+    by true e = impossible (cc (other-key out s p key d e))
     by false e = refl
 
-begins-same : (kept : Bool) (u v : Text) → Rests kept inside u v → beginsBits u ≡ beginsBits v
-unfolding beginsBits
-begins-same kept u v r =
-    found-same (To kept u v (suc (length v)) inside) (keyOf (text "bits=") u 0) (keyOf (text "bits=") v 0)
-    (key-there kept u v (suc (length v)) false (text "bits=") 0 0 refl (record { rests = r; less = omega arith }))
+-- and a key of no newline is there in both texts or in none
+pub key-same : (out : LeftOut) (s t : Text) (p q : ℕ) (key : Text) → fits false key ≡ true → Rests out inside (drop p s) (drop q t)
+    → isFound (keyAt s p key) ≡ isFound (keyAt t q key)
+key-same out s t p q key f r =
+    found-same (To out s t (suc (length (drop q t))) inside) (keyAt s p key) (keyAt t q key)
+    (key-there out s t (suc (length (drop q t))) false key p q f (record { rests = r; less = omega arith }))
 
-abbrev Clean : Place → Text → Type 0
-Clean inside v = Unit {0}
-Clean start v = beginsBits v ≡ false
-Clean away v = beginsBits v ≡ false
+out-same : (out : LeftOut) (u v : Text) → Rests out inside u v → isOut out u ≡ isOut out v
+unfolding begins
+out-same LeftOut.none u v r = refl
+out-same LeftOut.bits u v r = key-same LeftOut.bits u v 0 0 (text "bits=") refl r
+out-same LeftOut.raw u v r = key-same LeftOut.raw u v 0 0 (text "raw=") refl r
 
-clean : {m : Place} {u v : Text} → Rests false m u v → Clean m v
-unfolding beginsBits keyOf
+abbrev Clean : LeftOut → Place → Text → Type 0
+Clean out inside v = Unit {0}
+Clean out start v = isOut out v ≡ false
+Clean out away v = isOut out v ≡ false
+
+clean : {out : LeftOut} {m : Place} {u v : Text} → Rests out m u v → Clean out m v
 clean done = tt
-clean gone = refl
+clean {out} gone = nothing-out out
 clean (next r) = tt
-clean (skip {x = x} {v = v} r) = by (eqb x 10) (clean r)
+clean {out} (skip {x = x} {v = v} r) = by (eqb x 10) (clean r)
   where
-    by : (b : Bool) → Clean (behind b away) v → beginsBits v ≡ false
+    by : (b : Bool) → Clean out (behind b away) v → isOut out v ≡ false
     by true h = h
     by false h = h
-clean (same {u = u} {v = v} e r) = sym (begins-same false u v r) ∙ e
-clean (cut k e r) = clean r
+clean {out} (same {u = u} {v = v} e r) = sym (out-same out u v r) ∙ e
+clean (cut e r) = clean r
 
--- no line `bits` is left
-pub cleaned : (u v : Text) → Rests false start u v → beginsBits v ≡ false
-cleaned u v r = clean r
+-- no such line is left
+pub cleaned : {out : LeftOut} {u v : Text} → Rests out start u v → isOut out v ≡ false
+cleaned r = clean r
 
 -- ---- a line that is left out
 
@@ -367,12 +405,12 @@ module _ (P : ℕ → Type 0) where
   NumberOn (NumberRead.Is a p) = P p
   NumberOn NumberRead.Wrong = Unit {0}
 
-module _ (kept : Bool) (s v : Text) where
+module _ (out : LeftOut) (s v : Text) where
   -- the rest that says what `v` does
   abbrev pub From : Place → ℕ → Type 0
-  From m p = Rests kept m (drop p s) v
+  From m p = Rests out m (drop p s) v
 
-  key-away : (b : Bool) (key u : Text) (p : ℕ) → fits b key ≡ true → drop p s ≡ u → Rests kept away u v → FoundOn (From (behind b away)) (keyOf key u p)
+  key-away : (b : Bool) (key u : Text) (p : ℕ) → fits b key ≡ true → drop p s ≡ u → Rests out away u v → FoundOn (From (behind b away)) (keyOf key u p)
   unfolding keyOf
   key-away true [] u p f e r = impossible (cc)
   key-away false [] u p f e r = rw e r
@@ -385,30 +423,30 @@ module _ (kept : Bool) (s v : Text) where
       newline : eqb x k ≡ true → eqb x 10 ≡ eqb k 10
       newline h = ap (λ (y : ℕ). eqb y 10) (eqb-true x k h)
 
-      last : (c : Bool) (ls : Text) → (c && isNil ls) ≡ true → Rests kept start u v → FoundOn (From (behind c away)) (keyOf ls u (p + 1))
+      last : (c : Bool) (ls : Text) → (c && isNil ls) ≡ true → Rests out start u v → FoundOn (From (behind c away)) (keyOf ls u (p + 1))
       last true [] h w = rw e₁ w
       last true (z ∷ ls) h w = impossible (cc)
       last false ls h w = impossible (cc)
 
       by : (c : Bool) → eqb x k ≡ c → (d : Bool) → eqb k 10 ≡ d
-          → (fits b ks ≡ true → drop (p + 1) s ≡ u → Rests kept away u v → FoundOn (From (behind b away)) (keyOf ks u (p + 1)))
+          → (fits b ks ≡ true → drop (p + 1) s ≡ u → Rests out away u v → FoundOn (From (behind b away)) (keyOf ks u (p + 1)))
           → pick d (b && isNil ks) (fits b ks) ≡ true
           → FoundOn (From (behind b away)) (elim c [ true ↦ keyOf ks u (p + 1) | false ↦ Found.Nothing ])
       by false h d i ih j = tt
-      by true h true i ih j = last b ks j (subst (λ (y : Bool). Rests kept (behind y away) u v) (newline h ∙ i) r)
-      by true h false i ih j = ih j e₁ (subst (λ (y : Bool). Rests kept (behind y away) u v) (newline h ∙ i) r)
+      by true h true i ih j = last b ks j (subst (λ (y : Bool). Rests out (behind y away) u v) (newline h ∙ i) r)
+      by true h false i ih j = ih j e₁ (subst (λ (y : Bool). Rests out (behind y away) u v) (newline h ∙ i) r)
 
   pub key-left : (b : Bool) (key : Text) (p : ℕ) → fits b key ≡ true → From away p → FoundOn (From (behind b away)) (keyAt s p key)
   key-left b key p f r = key-away b key (drop p s) p f refl r
 
-  digits-away : (u : Text) (value p : ℕ) → drop p s ≡ u → Rests kept away u v → NumberOn (From start) (digitsOf u value p)
+  digits-away : (u : Text) (value p : ℕ) → drop p s ≡ u → Rests out away u v → NumberOn (From start) (digitsOf u value p)
   unfolding digitsOf
   digits-away [] value p e r = tt
   digits-away (x ∷ u) value p e (skip r) =
       by (eqb x 10) (isDigit x) (eqb value 0) (ltb (value * 10 + (x - 48)) (2 ^ 64)) (digitsOf u (value * 10 + (x - 48)) (p + 1)) r
       (digits-away u (value * 10 + (x - 48)) (p + 1) (rest-behind s p x u e))
     where
-      by : (a b c d : Bool) (i : NumberRead) → Rests kept (behind a away) u v → (Rests kept away u v → NumberOn (From start) i)
+      by : (a b c d : Bool) (i : NumberRead) → Rests out (behind a away) u v → (Rests out away u v → NumberOn (From start) i)
           → NumberOn (From start) (elim a [
             | true ↦ NumberRead.Is value (p + 1)
             | false ↦ elim b [
@@ -422,7 +460,7 @@ module _ (kept : Bool) (s v : Text) where
       by false true false true i k h = h k
       by false true false false i k h = tt
 
-  number-away : (u : Text) (p : ℕ) → drop p s ≡ u → Rests kept away u v → NumberOn (From start) (numberOf u p)
+  number-away : (u : Text) (p : ℕ) → drop p s ≡ u → Rests out away u v → NumberOn (From start) (numberOf u p)
   unfolding numberOf
   number-away [] p e r = tt
   number-away (x ∷ u) p e (skip r) = by (isDigit x) refl
@@ -431,7 +469,7 @@ module _ (kept : Bool) (s v : Text) where
       by false h = tt
       by true h =
           digits-away u (x - 48) (p + 1) (rest-behind s p x u e)
-          (subst (λ (y : Bool). Rests kept (behind y away) u v) (digit-only x h) r)
+          (subst (λ (y : Bool). Rests out (behind y away) u v) (digit-only x h) r)
 
   pub number-left : (p : ℕ) → From away p → NumberOn (From start) (numberAt s p)
   number-left p r = number-away (drop p s) p refl r

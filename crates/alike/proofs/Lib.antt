@@ -1,5 +1,6 @@
--- Ignored is to be read first; the others follow from the statements down. What each holds is said in its first lines.
+-- Ignored and Plainly are to be read first; the others follow from the statements down. What each holds is said in its first lines.
 pub mod Ignored
+pub mod Plainly
 pub mod Same
 pub mod Records
 pub mod Parser
@@ -12,3 +13,4 @@ pub mod Fields
 pub mod Lines
 pub mod Leaves
 pub mod Rests
+pub mod Cases

@@ -1,7 +1,8 @@
 -- A line that is read at one of two places whose rests say the same is read at the other: a key and a value, and what follows it.
 -- Assumes nothing.
 use mathlib.Core.Bool.{Bool, true, false, _&&_}
-use mathlib.Core.Path.{_≡_, refl, sym, subst}
+use mathlib.Core.Logic.{_⊎_, inl, inr}
+use mathlib.Core.Path.{_≡_, refl, sym, ap, subst}
 use Prim.Native.Nat.{ℕ, _≤_}
 use native.Mathlib.Omega.{arith}
 use lib.ListN.{length, drop}
@@ -22,22 +23,14 @@ use Rattle.definitions.specs.declared.MaybeNumberRead.{MaybeNumberRead}
 use Rattle.definitions.specs.declared.MaybeSizeRead.{MaybeSizeRead}
 use Rattle.definitions.specs.declared.MaybePartRead.{MaybePartRead}
 use Rattle.lengths.proofs.Booleans.{impossible}
-use Rattle.alike.specs.Without.{beginsBits}
+use Rattle.alike.specs.Without.{begins}
 use Rattle.alike.proofs.Same.{SamePart, SameMaybe}
-use Rattle.alike.proofs.Rests.{start, inside, away, Rests, same, cut, same-line}
-use Rattle.alike.proofs.Leaves.{fits, differ, FoundAs, NumberAs, NameAs, To, key-there, line-first, number-there, name-there, bits-there, other-key, cleaned, FoundOn, NumberOn, From, key-left, number-left}
+use Rattle.alike.proofs.Rests.{LeftOut, isOut, start, inside, away, Rests, same, cut}
+use Rattle.alike.proofs.Leaves.{fits, FoundAs, NumberAs, NameAs, To, key-there, line-first, number-there, name-there, key-begins, differing-key, apart, both, other-key, cleaned, FoundOn, NumberOn, From, key-left, number-left}
 
--- a key of no newline that is not `bits=`
+-- a key of no newline, of no line that may be left out
 abbrev pub plain : Text → Bool
-plain key = fits false key && differ key (text "bits=")
-
-both : (a b : Bool) → (a && b) ≡ true → (a ≡ true) × (b ≡ true)
-both true b e = (refl, e)
-both false b e = impossible (cc)
-
--- a line, with its newline, that is no line `bits`
-abbrev Whole : Text → Type 0
-Whole line = (fits true line ≡ true) × (differ line (text "bits=") ≡ true)
+plain key = fits false key && apart key
 
 -- ---- on from two answers
 
@@ -62,23 +55,27 @@ module _ {A : Type 0} (Q : A → A → Type 0) (bad : A) (w : (x : A) → Q bad 
   on-name s t (NameRead.Is m i) NameRead.Wrong f g u h = absurd u
   on-name s t (NameRead.Is m i) (NameRead.Is k j) f g u h = h m k i j (u .0) (u .1)
 
--- what the second of two lines `bits` states: where `kept` what the first does, else nothing
-kept-here : (kept b : Bool) → b ≡ true → pick kept false b ≡ false → (m : MaybeSize) → m ≡ pick kept m MaybeSize.None
-kept-here true b e f m = refl
-kept-here false b e f m = impossible (cc)
+-- whether the second text has the lines `bits` of the first
+abbrev pub keeps : LeftOut → Bool
+keeps LeftOut.none = true
+keeps LeftOut.bits = false
+keeps LeftOut.raw = true
 
-pub in-none : (kept : Bool) → MaybeSize.None ≡ pick kept MaybeSize.None MaybeSize.None
-in-none true = refl
-in-none false = refl
+-- what it states: the same as the first, or nothing
+kept-here : (out : LeftOut) (u : Text) → begins (text "bits=") u ≡ true → isOut out u ≡ false → (m : MaybeSize) → m ≡ pick (keeps out) m MaybeSize.None
+kept-here LeftOut.none u e f m = refl
+kept-here LeftOut.bits u e f m = impossible (cc)
+kept-here LeftOut.raw u e f m = refl
 
-left-out : (kept : Bool) → kept ≡ false → (m : MaybeSize) → MaybeSize.None ≡ pick kept m MaybeSize.None
-left-out true e m = impossible (cc)
-left-out false e m = refl
+pub in-none : (out : LeftOut) → MaybeSize.None ≡ pick (keeps out) MaybeSize.None MaybeSize.None
+in-none LeftOut.none = refl
+in-none LeftOut.bits = refl
+in-none LeftOut.raw = refl
 
-module _ (kept : Bool) (s t : Text) (n : ℕ) where
+module _ (out : LeftOut) (s t : Text) (n : ℕ) where
   -- places at the beginning of a line
   abbrev pub Beyond : ℕ → ℕ → Type 0
-  Beyond = To kept s t n start
+  Beyond = To out s t n start
 
   abbrev BitAs : BitRead → BitRead → Type 0
   BitAs BitRead.Wrong r = Unit {0}
@@ -103,36 +100,36 @@ module _ (kept : Bool) (s t : Text) (n : ℕ) where
   abbrev MaybeSizeAs : MaybeSizeRead → MaybeSizeRead → Type 0
   MaybeSizeAs MaybeSizeRead.Wrong r = Unit {0}
   MaybeSizeAs (MaybeSizeRead.Is a p) MaybeSizeRead.Wrong = ⊥
-  MaybeSizeAs (MaybeSizeRead.Is a p) (MaybeSizeRead.Is b q) = (b ≡ pick kept a MaybeSize.None) × Beyond p q
+  MaybeSizeAs (MaybeSizeRead.Is a p) (MaybeSizeRead.Is b q) = (b ≡ pick (keeps out) a MaybeSize.None) × Beyond p q
 
   -- ---- a line's key, and the value under it
 
   module _ {A : Type 0} (Q : A → A → Type 0) (bad : A) (w : (x : A) → Q bad x) (p q : ℕ) (key : Text) (c : plain key ≡ true) (k : Beyond p q) where
-    on-key : (f g : ℕ → A) → ((i j : ℕ) → To kept s t n inside i j → Q (f i) (g j)) → Q (onFound (keyAt s p key) bad f) (onFound (keyAt t q key) bad g)
+    on-key : (f g : ℕ → A) → ((i j : ℕ) → To out s t n inside i j → Q (f i) (g j)) → Q (onFound (keyAt s p key) bad f) (onFound (keyAt t q key) bad g)
     on-key f g h = by (k .rests)
       where
-        by : Rests kept start (drop p s) (drop q t) → Q (onFound (keyAt s p key) bad f) (onFound (keyAt t q key) bad g)
+        by : Rests out start (drop p s) (drop q t) → Q (onFound (keyAt s p key) bad f) (onFound (keyAt t q key) bad g)
         by (same e r) =
-            on-found Q (To kept s t n inside) bad bad (w bad) (keyAt s p key) (keyAt t q key) f g
-            (key-there kept s t n false key p q (both (fits false key) (differ key (text "bits=")) c .0) (record { rests = r; less = k .less })) h
-        by (cut z e r) =
+            on-found Q (To out s t n inside) bad bad (w bad) (keyAt s p key) (keyAt t q key) f g
+            (key-there out s t n false key p q (both (fits false key) (apart key) c .0) (record { rests = r; less = k .less })) h
+        by (cut e r) =
             subst (λ (a : Found). Q (onFound a bad f) (onFound (keyAt t q key) bad g))
-            (sym (other-key s p key (both (fits false key) (differ key (text "bits=")) c .1) e)) (w (onFound (keyAt t q key) bad g))
+            (sym (other-key out s p key (both (fits false key) (apart key) c .1) e)) (w (onFound (keyAt t q key) bad g))
 
   -- the alternatives of a value: a line's end that is found or not at both
-  module _ {A : Type 0} (Q : A → A → Type 0) (p q : ℕ) (key : Text) (c : fits true key ≡ true) (k : To kept s t n inside p q) where
+  module _ {A : Type 0} (Q : A → A → Type 0) (p q : ℕ) (key : Text) (c : fits true key ≡ true) (k : To out s t n inside p q) where
     on-end : (bad bad₂ : A) (f g : ℕ → A) → Q bad bad₂ → ((i j : ℕ) → Beyond i j → Q (f i) (g j))
         → Q (onFound (keyAt s p key) bad f) (onFound (keyAt t q key) bad₂ g)
-    on-end bad bad₂ f g w h = on-found Q Beyond bad bad₂ w (keyAt s p key) (keyAt t q key) f g (key-there kept s t n true key p q c k) h
+    on-end bad bad₂ f g w h = on-found Q Beyond bad bad₂ w (keyAt s p key) (keyAt t q key) f g (key-there out s t n true key p q c k) h
 
   module _ (p q : ℕ) (key : Text) (c : plain key ≡ true) (k : Beyond p q) where
     number-line : NumberAs Beyond (numberLine s p key) (numberLine t q key)
     unfolding numberLine
-    number-line = on-key (NumberAs Beyond) NumberRead.Wrong (λ x. tt) p q key c k _ _ (number-there kept s t n)
+    number-line = on-key (NumberAs Beyond) NumberRead.Wrong (λ x. tt) p q key c k _ _ (number-there out s t n)
 
     name-line : NameAs Beyond s t (nameLine s p key) (nameLine t q key)
     unfolding nameLine
-    name-line = on-key (NameAs Beyond s t) NameRead.Wrong (λ x. tt) p q key c k _ _ (name-there kept s t n)
+    name-line = on-key (NameAs Beyond s t) NameRead.Wrong (λ x. tt) p q key c k _ _ (name-there out s t n)
 
     bit-line : BitAs (bitLine s p key) (bitLine t q key)
     unfolding bitLine
@@ -146,7 +143,7 @@ module _ (kept : Bool) (s t : Text) (n : ℕ) where
     maybe-number-line =
         on-key MaybeNumberAs MaybeNumberRead.Wrong (λ x. tt) p q key c k _ _ λ i j h.
         on-end MaybeNumberAs i j (text "-\n") refl h _ _ _ _
-        (on-number MaybeNumberAs MaybeNumberRead.Wrong (λ x. tt) Beyond (numberAt s i) (numberAt t j) _ _ (number-there kept s t n i j h)
+        (on-number MaybeNumberAs MaybeNumberRead.Wrong (λ x. tt) Beyond (numberAt s i) (numberAt t j) _ _ (number-there out s t n i j h)
         λ m x y u. (refl, u))
         λ x y u. (refl, u)
 
@@ -155,7 +152,7 @@ module _ (kept : Bool) (s t : Text) (n : ℕ) where
     maybe-name-line =
         on-key MaybePartAs MaybePartRead.Wrong (λ x. tt) p q key c k _ _ λ i j h.
         on-end MaybePartAs i j (text "-\n") refl h _ _ _ _
-        (on-name MaybePartAs MaybePartRead.Wrong (λ x. tt) Beyond s t (nameAt s i) (nameAt t j) _ _ (name-there kept s t n i j h)
+        (on-name MaybePartAs MaybePartRead.Wrong (λ x. tt) Beyond s t (nameAt s i) (nameAt t j) _ _ (name-there out s t n i j h)
         λ a b x y e u. (SameMaybe.some e, u))
         λ x y u. (SameMaybe.none, u)
 
@@ -164,130 +161,46 @@ module _ (kept : Bool) (s t : Text) (n : ℕ) where
     modifier-line =
         on-key ModifierAs ModifierRead.Wrong (λ x. tt) p q key c k _ _ λ i j h.
         on-end ModifierAs i j (text "-\n") refl h _ _ _ _
-        (on-found ModifierAs (To kept s t n inside) _ _
-        (on-found ModifierAs (To kept s t n inside) ModifierRead.Wrong ModifierRead.Wrong tt (keyAt s i (text "+")) (keyAt t j (text "+")) _ _
-        (key-there kept s t n false (text "+") i j refl h) (signed Modifier.Plus))
-        (keyAt s i (text "-")) (keyAt t j (text "-")) _ _ (key-there kept s t n false (text "-") i j refl h) (signed Modifier.Minus))
+        (on-found ModifierAs (To out s t n inside) _ _
+        (on-found ModifierAs (To out s t n inside) ModifierRead.Wrong ModifierRead.Wrong tt (keyAt s i (text "+")) (keyAt t j (text "+")) _ _
+        (key-there out s t n false (text "+") i j refl h) (signed Modifier.Plus))
+        (keyAt s i (text "-")) (keyAt t j (text "-")) _ _ (key-there out s t n false (text "-") i j refl h) (signed Modifier.Minus))
         λ x y u. (refl, u)
       where
-        signed : (sign : ℕ → Modifier) (i j : ℕ) → To kept s t n inside i j
+        signed : (sign : ℕ → Modifier) (i j : ℕ) → To out s t n inside i j
             → ModifierAs (onNumber (numberAt s i) ModifierRead.Wrong λ m x. ModifierRead.Is (sign m) x)
             (onNumber (numberAt t j) ModifierRead.Wrong λ m x. ModifierRead.Is (sign m) x)
         signed sign i j h =
-            on-number ModifierAs ModifierRead.Wrong (λ x. tt) Beyond (numberAt s i) (numberAt t j) _ _ (number-there kept s t n i j h)
+            on-number ModifierAs ModifierRead.Wrong (λ x. tt) Beyond (numberAt s i) (numberAt t j) _ _ (number-there out s t n i j h)
             λ m x y u. (refl, u)
-
-  -- ---- the line `bits`: both read it, or the second leaves it out
-
-  module _ (p q : ℕ) (k : Beyond p q) where
-    -- both
-    stated : ((m : MaybeSize) → m ≡ pick kept m MaybeSize.None) → (i j : ℕ) → To kept s t n inside i j → MaybeSizeAs (statedAt s i) (statedAt t j)
-    stated given i j h =
-        on-end MaybeSizeAs i j (text "dynamic\n") refl h _ _ _ _
-        (on-end MaybeSizeAs i j (text "unknown\n") refl h _ _ _ _
-        (on-number MaybeSizeAs MaybeSizeRead.Wrong (λ x. tt) Beyond (numberAt s i) (numberAt t j) _ _ (number-there kept s t n i j h)
-        λ m x y u. (given (MaybeSize.Some (Size.Static m)), u))
-        λ x y u. (given (MaybeSize.Some Size.Unknown), u))
-        λ x y u. (given (MaybeSize.Some Size.Dynamic), u)
-
-    here : (a : Found) → keyAt s p (text "bits=") ≡ a → pick kept false (beginsBits (drop p s)) ≡ false → (b : Found) → FoundAs (To kept s t n inside) a b
-        → MaybeSizeAs (onFound a (MaybeSizeRead.Is MaybeSize.None p) λ i. statedAt s i) (onFound b (MaybeSizeRead.Is MaybeSize.None q) λ i. statedAt t i)
-    here (Found.At i) e f (Found.At j) u =
-        let c : beginsBits (drop p s) ≡ true = cc (bits-there s p) in
-        stated (kept-here kept (beginsBits (drop p s)) c f) i j u
-    here (Found.At i) e f Found.Nothing u = absurd u
-    here Found.Nothing e f (Found.At j) u = absurd u
-    here Found.Nothing e f Found.Nothing u = (in-none kept, k)
-
-    -- only the first
-    from : (i : ℕ) → From kept s (drop q t) start i → Beyond i q
-    from i r = record { rests = r; less = k .less }
-
-    left : kept ≡ false → (i : ℕ) → From kept s (drop q t) away i → MaybeSizeAs (statedAt s i) (MaybeSizeRead.Is MaybeSize.None q)
-    left z i r =
-        ended (text "dynamic\n") refl _ _
-        (ended (text "unknown\n") refl _ _ (number (numberAt s i) (number-left kept s (drop q t) i r))
-        λ x u. (left-out kept z (MaybeSize.Some Size.Unknown), from x u))
-        λ x u. (left-out kept z (MaybeSize.Some Size.Dynamic), from x u)
-      where
-        AsNone : MaybeSizeRead → Type 0
-        AsNone a = MaybeSizeAs a (MaybeSizeRead.Is MaybeSize.None q)
-
-        ended : (key : Text) → fits true key ≡ true → (bad : MaybeSizeRead) (f : ℕ → MaybeSizeRead) → AsNone bad
-            → ((x : ℕ) → From kept s (drop q t) start x → AsNone (f x)) → AsNone (onFound (keyAt s i key) bad f)
-        ended key c bad f w h = by (keyAt s i key) (key-left kept s (drop q t) true key i c r)
-          where
-            by : (a : Found) → FoundOn (From kept s (drop q t) start) a → AsNone (onFound a bad f)
-            by (Found.At x) u = h x u
-            by Found.Nothing u = w
-
-        number : (a : NumberRead) → NumberOn (From kept s (drop q t) start) a
-            → AsNone (onNumber a MaybeSizeRead.Wrong λ m x. MaybeSizeRead.Is (MaybeSize.Some (Size.Static m)) x)
-        number (NumberRead.Is m x) u = (left-out kept z (MaybeSize.Some (Size.Static m)), from x u)
-        number NumberRead.Wrong u = tt
-
-    bits-line : MaybeSizeAs (bitsLine s p) (bitsLine t q)
-    unfolding bitsLine
-    bits-line = by (k .rests)
-      where
-        by : Rests kept start (drop p s) (drop q t) → MaybeSizeAs (bitsLine s p) (bitsLine t q)
-        by (same e r) =
-            here (keyAt s p (text "bits=")) refl e (keyAt t q (text "bits="))
-            (key-there kept s t n false (text "bits=") p q refl (record { rests = r; less = k .less }))
-        by (cut z e r) = cuts (keyAt s p (text "bits=")) refl (key-left kept s (drop q t) false (text "bits=") p refl r) (keyAt t q (text "bits=")) refl
-          where
-            cuts : (a : Found) → keyAt s p (text "bits=") ≡ a → FoundOn (From kept s (drop q t) away) a → (b : Found) → keyAt t q (text "bits=") ≡ b
-                → MaybeSizeAs (onFound a (MaybeSizeRead.Is MaybeSize.None p) λ i. statedAt s i)
-                (onFound b (MaybeSizeRead.Is MaybeSize.None q) λ i. statedAt t i)
-            cuts (Found.At i) f u Found.Nothing g = left z i u
-            cuts Found.Nothing f u b g = impossible (cc (bits-there s p))
-            cuts (Found.At i) f u (Found.At j) g =
-                impossible (cc (
-                  bits-there t q,
-                  cleaned (drop p s) (drop q t)
-                      (subst (λ (y : Bool). Rests y start (drop p s) (drop q t)) z (k .rests)),
-                ))
 
   -- ---- a line of one word
 
   -- one of a line's choices
-  pub then-line : {A : Type 0} (Q : A → A → Type 0) (p q : ℕ) → Rests kept inside (drop p s) (drop q t) → length (drop q t) ≤ n
+  pub then-line : {A : Type 0} (Q : A → A → Type 0) (p q : ℕ) → Rests out inside (drop p s) (drop q t) → length (drop q t) ≤ n
       → (line : Text) → fits true line ≡ true → (bad bad₂ : A) → Q bad bad₂ → (f g : ℕ → A) → ((i j : ℕ) → Beyond i j → Q (f i) (g j))
       → Q (onFound (keyAt s p line) bad f) (onFound (keyAt t q line) bad₂ g)
   then-line Q p q r l line c bad bad₂ w f g h =
-      on-found Q Beyond bad bad₂ w (keyAt s p line) (keyAt t q line) f g (line-first kept s t n line p q c r l) h
+      on-found Q Beyond bad bad₂ w (keyAt s p line) (keyAt t q line) f g (line-first out s t n line p q c r l) h
 
-  -- what was read before is P, and nothing is asked before a line `bits`: an optional line that stands behind it is read in the second text alone
-  abbrev pub SoFar : Type 0 → ℕ → ℕ → Type 0
-  SoFar P p q = beginsBits (drop p s) ≡ false → P × Beyond p q
-
-  -- an optional line of two words, absent as if it had the first; `read` is the answer, of a word and the place behind
+  -- an optional line of two words, absent as if it had the first; `read` is the answer, of a word and the place behind. Both texts read it, or neither
   module _ {A W : Type 0} (read : W → ℕ → A) (word : A → W) (next : A → ℕ) (law : (w : W) (i : ℕ) → (word (read w i) ≡ w) × (next (read w i) ≡ i))
-      (first second : W) (a b : Text) (c : Whole a) (d : Whole b) (P : Type 0) where
-    abbrev optionalAt : Text → ℕ → A
-    optionalAt u p = onFound (keyAt u p a) (onFound (keyAt u p b) (read first p) (read second)) (read first)
+      (first second : W) (a b : Text) (c : fits true a ≡ true) (d : fits true b ≡ true) where
+    abbrev oneOf : Text → ℕ → A
+    oneOf u p = onFound (keyAt u p a) (onFound (keyAt u p b) (read first p) (read second)) (read first)
 
-    abbrev Adds : A → A → Type 0
-    Adds x y = SoFar (P × (word x ≡ word y)) (next x) (next y)
+    abbrev Agree : A → A → Type 0
+    Agree x y = (word x ≡ word y) × Beyond (next x) (next y)
 
-    adds : (w : W) (i j : ℕ) → SoFar P i j → Adds (read w i) (read w j)
-    adds w i j u = rw (law w i .0, law w j .0, law w i .1, law w j .1) λ e. ((u e .0, refl), u e .1)
+    agree : (w : W) (i j : ℕ) → Beyond i j → Agree (read w i) (read w j)
+    agree w i j u = rw (law w i .0, law w j .0, law w i .1, law w j .1) (refl, u)
 
-    -- it adds its word to what was read before
-    pub then-optional : (p q : ℕ) → SoFar P p q → Adds (optionalAt s p) (optionalAt t q)
-    then-optional p q k = by (beginsBits (drop p s)) refl
-      where
-        by : (x : Bool) → beginsBits (drop p s) ≡ x → Adds (optionalAt s p) (optionalAt t q)
-        by true e = rw (other-key s p a (c .1) e, other-key s p b (d .1) e, law first p .1) λ g. impossible (cc)
-        by false e =
-            let r : Rests kept inside (drop p s) (drop q t) = same-line e (k e .1 .rests) in
-            let l : length (drop q t) ≤ n = omega (arith, k e .1 .less) in
-            then-line Adds p q r l a (c .0) _ _
-            (then-line Adds p q r l b (d .0) (read first p) (read first q) (adds first p q k) (read second) (read second) (found second))
-            (read first) (read first) (found first)
-          where
-            found : (w : W) (i j : ℕ) → Beyond i j → Adds (read w i) (read w j)
-            found w i j u = adds w i j λ g. (k e .0, u)
+    pub then-optional : (p q : ℕ) → Rests out inside (drop p s) (drop q t) → Beyond p q → Agree (oneOf s p) (oneOf t q)
+    then-optional p q r k =
+        let l : length (drop q t) ≤ n = omega (arith, k .less) in
+        then-line Agree p q r l a c _ _
+        (then-line Agree p q r l b d (read first p) (read first q) (agree first p q k) (read second) (read second) (agree second)) (read first) (read first)
+        (agree first)
 
   -- ---- a line, and what follows it
 
@@ -337,11 +250,100 @@ module _ (kept : Bool) (s t : Text) (n : ℕ) where
           by (MaybePartRead.Is m i) MaybePartRead.Wrong u = absurd u
           by (MaybePartRead.Is m i) (MaybePartRead.Is o j) u = h m o i j (u .0) (u .1)
 
-    pub then-bits : (f g : MaybeSize → ℕ → A) → ((a b : MaybeSize) (i j : ℕ) → b ≡ pick kept a MaybeSize.None → Beyond i j → Q (f a i) (g b j))
-        → Q (onMaybeSize (bitsLine s p) bad f) (onMaybeSize (bitsLine t q) bad g)
-    then-bits f g h = by (bitsLine s p) (bitsLine t q) (bits-line p q k)
-      where
-        by : (a b : MaybeSizeRead) → MaybeSizeAs a b → Q (onMaybeSize a bad f) (onMaybeSize b bad g)
-        by MaybeSizeRead.Wrong b u = w (onMaybeSize b bad g)
-        by (MaybeSizeRead.Is m i) MaybeSizeRead.Wrong u = absurd u
-        by (MaybeSizeRead.Is m i) (MaybeSizeRead.Is o j) u = h m o i j (u .0) (u .1)
+-- ---- the line `bits`: both read it, or the second leaves it out
+
+module _ (out : LeftOut) (s t : Text) (n p q : ℕ) (k : Beyond out s t n p q) where
+  -- both
+  stated : ((m : MaybeSize) → m ≡ pick (keeps out) m MaybeSize.None) → (i j : ℕ) → To out s t n inside i j
+      → MaybeSizeAs out s t n (statedAt s i) (statedAt t j)
+  stated given i j h =
+      on-end out s t n (MaybeSizeAs out s t n) i j (text "dynamic\n") refl h _ _ _ _
+      (on-end out s t n (MaybeSizeAs out s t n) i j (text "unknown\n") refl h _ _ _ _
+      (on-number (MaybeSizeAs out s t n) MaybeSizeRead.Wrong (λ x. tt) (Beyond out s t n) (numberAt s i) (numberAt t j) _ _ (number-there out s t n i j h)
+      λ m x y u. (given (MaybeSize.Some (Size.Static m)), u))
+      λ x y u. (given (MaybeSize.Some Size.Unknown), u))
+      λ x y u. (given (MaybeSize.Some Size.Dynamic), u)
+
+  here : (a : Found) → keyAt s p (text "bits=") ≡ a → isOut out (drop p s) ≡ false → (b : Found) → FoundAs (To out s t n inside) a b
+      → MaybeSizeAs out s t n (onFound a (MaybeSizeRead.Is MaybeSize.None p) λ i. statedAt s i)
+      (onFound b (MaybeSizeRead.Is MaybeSize.None q) λ i. statedAt t i)
+  here (Found.At i) e f (Found.At j) u =
+      let c : begins (text "bits=") (drop p s) ≡ true = cc (key-begins s p (text "bits=")) in
+      stated (kept-here out (drop p s) c f) i j u
+  here (Found.At i) e f Found.Nothing u = absurd u
+  here Found.Nothing e f (Found.At j) u = absurd u
+  here Found.Nothing e f Found.Nothing u = (in-none out, k)
+
+-- only the first
+module _ (s t : Text) (n p q : ℕ) (k : Beyond LeftOut.bits s t n p q) where
+  from : (i : ℕ) → From LeftOut.bits s (drop q t) start i → Beyond LeftOut.bits s t n i q
+  from i r = record { rests = r; less = k .less }
+
+  left : (i : ℕ) → From LeftOut.bits s (drop q t) away i → MaybeSizeAs LeftOut.bits s t n (statedAt s i) (MaybeSizeRead.Is MaybeSize.None q)
+  left i r =
+      ended (text "dynamic\n") refl _ _
+      (ended (text "unknown\n") refl _ _ (number (numberAt s i) (number-left LeftOut.bits s (drop q t) i r)) λ x u. (refl, from x u))
+      λ x u. (refl, from x u)
+    where
+      AsNone : MaybeSizeRead → Type 0
+      AsNone a = MaybeSizeAs LeftOut.bits s t n a (MaybeSizeRead.Is MaybeSize.None q)
+
+      ended : (key : Text) → fits true key ≡ true → (bad : MaybeSizeRead) (f : ℕ → MaybeSizeRead) → AsNone bad
+          → ((x : ℕ) → From LeftOut.bits s (drop q t) start x → AsNone (f x)) → AsNone (onFound (keyAt s i key) bad f)
+      ended key c bad f w h = by (keyAt s i key) (key-left LeftOut.bits s (drop q t) true key i c r)
+        where
+          by : (a : Found) → FoundOn (From LeftOut.bits s (drop q t) start) a → AsNone (onFound a bad f)
+          by (Found.At x) u = h x u
+          by Found.Nothing u = w
+
+      number : (a : NumberRead) → NumberOn (From LeftOut.bits s (drop q t) start) a
+          → AsNone (onNumber a MaybeSizeRead.Wrong λ m x. MaybeSizeRead.Is (MaybeSize.Some (Size.Static m)) x)
+      number (NumberRead.Is m x) u = (refl, from x u)
+      number NumberRead.Wrong u = tt
+
+  first-only : (a : Found) → keyAt s p (text "bits=") ≡ a → begins (text "bits=") (drop p s) ≡ true → FoundOn (From LeftOut.bits s (drop q t) away) a
+      → (b : Found) → keyAt t q (text "bits=") ≡ b
+      → MaybeSizeAs LeftOut.bits s t n (onFound a (MaybeSizeRead.Is MaybeSize.None p) λ i. statedAt s i)
+      (onFound b (MaybeSizeRead.Is MaybeSize.None q) λ i. statedAt t i)
+  first-only (Found.At i) f e u Found.Nothing g = left i u
+  first-only Found.Nothing f e u b g = impossible (cc (key-begins s p (text "bits=")))
+  first-only (Found.At i) f e u (Found.At j) g = impossible (cc (key-begins t q (text "bits="), cleaned (k .rests)))
+
+-- or a line `raw` stands in its place, and the second text leaves that out
+abbrev Instead : LeftOut → Text → ℕ → Type 0
+Instead out s p = (isOut out (drop p s) ≡ true) × (bitsLine s p ≡ MaybeSizeRead.Is MaybeSize.None p)
+
+bits-line : (out : LeftOut) (s t : Text) (n p q : ℕ) → Beyond out s t n p q → Instead out s p ⊎ MaybeSizeAs out s t n (bitsLine s p) (bitsLine t q)
+unfolding bitsLine
+bits-line out s t n p q k = by (k .rests)
+  where
+    gone : (o : LeftOut) → Beyond o s t n p q → isOut o (drop p s) ≡ true → Rests o away (drop p s) (drop q t)
+        → Instead o s p ⊎ MaybeSizeAs o s t n (bitsLine s p) (bitsLine t q)
+    gone LeftOut.none h e r = impossible (cc)
+    gone LeftOut.bits h e r =
+        inr (first-only s t n p q h (keyAt s p (text "bits=")) refl e (key-left LeftOut.bits s (drop q t) false (text "bits=") p refl r)
+        (keyAt t q (text "bits=")) refl)
+    gone LeftOut.raw h e r =
+        inl (e, ap (λ (a : Found). onFound a (MaybeSizeRead.Is MaybeSize.None p) λ i. statedAt s i) (differing-key s p (text "bits=") (text "raw=") refl e))
+
+    by : Rests out start (drop p s) (drop q t) → Instead out s p ⊎ MaybeSizeAs out s t n (bitsLine s p) (bitsLine t q)
+    by (same e r) =
+        inr (here out s t n p q k (keyAt s p (text "bits=")) refl e (keyAt t q (text "bits="))
+        (key-there out s t n false (text "bits=") p q refl (record { rests = r; less = k .less })))
+    by (cut e r) = gone out k e r
+
+module _ (out : LeftOut) (s t : Text) (n : ℕ) {A : Type 0} (Q : A → A → Type 0) (bad : A) (w : (x : A) → Q bad x) (p q : ℕ) (k : Beyond out s t n p q) where
+  -- where a line that is left out stands in the place of `bits`, nothing is known of the second text
+  pub then-bits : (f g : MaybeSize → ℕ → A) → ((x : A) → isOut out (drop p s) ≡ true → Q (f MaybeSize.None p) x)
+      → ((a b : MaybeSize) (i j : ℕ) → b ≡ pick (keeps out) a MaybeSize.None → Beyond out s t n i j → Q (f a i) (g b j))
+      → Q (onMaybeSize (bitsLine s p) bad f) (onMaybeSize (bitsLine t q) bad g)
+  then-bits f g z h = by (bits-line out s t n p q k)
+    where
+      both-read : (a b : MaybeSizeRead) → MaybeSizeAs out s t n a b → Q (onMaybeSize a bad f) (onMaybeSize b bad g)
+      both-read MaybeSizeRead.Wrong b u = w (onMaybeSize b bad g)
+      both-read (MaybeSizeRead.Is m i) MaybeSizeRead.Wrong u = absurd u
+      both-read (MaybeSizeRead.Is m i) (MaybeSizeRead.Is o j) u = h m o i j (u .0) (u .1)
+
+      by : Instead out s p ⊎ MaybeSizeAs out s t n (bitsLine s p) (bitsLine t q) → Q (onMaybeSize (bitsLine s p) bad f) (onMaybeSize (bitsLine t q) bad g)
+      by (inl e) = rw (e .1) (z (onMaybeSize (bitsLine t q) bad g) (e .0))
+      by (inr u) = both-read (bitsLine s p) (bitsLine t q) u

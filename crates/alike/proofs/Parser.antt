@@ -299,7 +299,7 @@ module _ (c d : Setting) (same : SameSetting c d) where
     where
       by : (cs : List Chunk) (bs : List Bit) → flushed c p cs bs ≡ flushed d p cs bs
       by [] bs = refl
-      by (x ∷ cs) [] = cc (same-order)
+      by (x ∷ cs) [] = cc (same .options)
       by (x ∷ cs) (b ∷ bs) = refl
 
   same-parse : (p : FieldParser) (a b : Annotated) → SameAnnotated s t a b → {xs ys : List Annotated} → SameAnnotateds s t xs ys

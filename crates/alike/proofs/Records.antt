@@ -1,6 +1,7 @@
--- The sum: two records that say the same, of which the second states no wrong size, have one answer, unless the first states a wrong size.
+-- The sum: two records that say the same, of which the second states no wrong size, have one answer, unless the first states a wrong size (`same-record`);
+-- where both state the same sizes they have one answer (`stated-record`).
 -- Assumes nothing.
-use mathlib.Core.Path.{_≡_, refl, sym, ap, _∙_}
+use mathlib.Core.Path.{_≡_, refl, sym, ap}
 use mathlib.Core.List.{List, [], _∷_, _++_}
 use mathlib.Core.Bool.{true, false}
 use mathlib.Core.Logic.{_⊎_, inl, inr}
@@ -18,8 +19,15 @@ use Rattle.definitions.specs.declared.Verdict.{Verdict}
 use Rattle.alike.proofs.Same.{SameDeclarations, SameHead, Stating}
 use Rattle.alike.proofs.Names.{same-or}
 use Rattle.alike.proofs.Sizes.{SameRows, rows-snoc, annotate-decl, same-schema}
-use Rattle.alike.proofs.Refusals.{same-verdict}
+use Rattle.alike.proofs.Refusals.{same-verdict, stated-verdict}
 use Rattle.alike.proofs.Parser.{same-lowering}
+
+-- what a verdict comes to, where it comes to `o` if all tests are passed
+abbrev judgedAs : Outcome → Verdict → Outcome
+judgedAs o v = elim v [ Verdict.Pass ↦ o | Verdict.Refuse why ↦ refused why ]
+
+same-outcome : (o p : Outcome) (v w : Verdict) → o ≡ p → v ≡ w → judgedAs o v ≡ judgedAs p w
+same-outcome o p v w e f = rw (e, f)
 
 pub same-record : (s t : Text) (h k : Head) (ds es : List Declaration) → SameHead s t h k → SameDeclarations s t ds es
     → misstated (newSchema t es) ≡ false
@@ -27,20 +35,16 @@ pub same-record : (s t : Text) (h k : Head) (ds es : List Declaration) → SameH
 unfolding lowerRecord
 same-record s t h k ds es head ks e = by _ _ (same-verdict s t h k ds es head ks e)
   where
-    -- what a verdict comes to, of the one and of the other record
-    one : Verdict → Outcome
-    one v = elim v [ Verdict.Pass ↦ lowerIn s h (newSchema s ds) | Verdict.Refuse why ↦ refused why ]
+    one : Outcome
+    one = lowerIn s h (newSchema s ds)
 
-    other : Verdict → Outcome
-    other v = elim v [ Verdict.Pass ↦ lowerIn t k (newSchema t es) | Verdict.Refuse why ↦ refused why ]
+    other : Outcome
+    other = lowerIn t k (newSchema t es)
 
-    alike : (v : Verdict) → one v ≡ other v
-    alike Verdict.Pass = same-lowering s t h k head (same-schema s t ks)
-    alike (Verdict.Refuse why) = refl
-
-    by : (v w : Verdict) → (v ≡ Verdict.Refuse Refusal.Misstated) ⊎ (v ≡ w) → (one v ≡ refused Refusal.Misstated) ⊎ (one v ≡ other w)
-    by v w (inl g) = inl (ap one g)
-    by v w (inr g) = inr (ap one g ∙ alike w)
+    by : (v w : Verdict) → (v ≡ Verdict.Refuse Refusal.Misstated) ⊎ (v ≡ w)
+        → (judgedAs one v ≡ refused Refusal.Misstated) ⊎ (judgedAs one v ≡ judgedAs other w)
+    by v w (inl g) = inl (ap (judgedAs one) g)
+    by v w (inr g) = inr (same-outcome one other v w (same-lowering s t h k head (same-schema s t ks)) g)
 
 -- ---- refusal 17 of two records that say the same
 
@@ -73,3 +77,10 @@ same-from s t rs qs rows (SameDeclarations.more {d} {e} k ks) (Stating.more h hs
 pub same-stated : (s t : Text) (ds es : List Declaration) → SameDeclarations s t ds es → Stating true ds es
     → misstated (newSchema s ds) ≡ misstated (newSchema t es)
 same-stated s t ds es k h = same-from s t [] [] SameRows.done k h
+
+-- and so the same answer, whatever it is
+pub stated-record : (s t : Text) (h k : Head) (ds es : List Declaration) → SameHead s t h k → SameDeclarations s t ds es → Stating true ds es
+    → lowerRecord s h ds (newSchema s ds) ≡ lowerRecord t k es (newSchema t es)
+unfolding lowerRecord
+stated-record s t h k ds es head ks g =
+    same-outcome _ _ _ _ (same-lowering s t h k head (same-schema s t ks)) (stated-verdict s t h k ds es head ks (same-stated s t ds es ks g))

@@ -1,4 +1,5 @@
--- Records that say the same are turned back alike: each test of the verdict but 17, which reads `bits`, and the verdict up to 17.
+-- Records that say the same are turned back alike: each test of the verdict but 17, which reads `bits`; the verdict up to 17, and with it where it is met
+-- alike.
 -- Assumes nothing.
 use mathlib.Core.Path.{_≡_, refl, ap}
 use mathlib.Core.List.{List, [], _∷_, _++_}
@@ -283,33 +284,53 @@ module _ (s t : Text) where
 
 -- ---- the verdict
 
+-- verdicts of which R holds, behind tests that are met alike
+module _ (R : Verdict → Verdict → Type 0) (itself : (v : Verdict) → R v v) where
+  judged-next : (a b : Bool) (why : Refusal) (v w : Verdict) → a ≡ b → R v w → R (refuseIf a why v) (refuseIf b why w)
+  judged-next true true why v w e h = itself (Verdict.Refuse why)
+  judged-next true false why v w e h = impossible (cc)
+  judged-next false true why v w e h = impossible (cc)
+  judged-next false false why v w e h = h
+
+  -- all tests but 17 are
+  judged : (s t : Text) (h k : Head) (ds es : List Declaration) → SameHead s t h k → SameDeclarations s t ds es
+      → ((v : Verdict) → R (refuseIf (misstated (newSchema s ds)) Refusal.Misstated v) (refuseIf (misstated (newSchema t es)) Refusal.Misstated v))
+      → R (verdict s h ds (newSchema s ds)) (verdict t k es (newSchema t es))
+  unfolding verdict
+  judged s t h k ds es head ks m =
+      let schema : SameSchema s t (newSchema s ds) (newSchema t es) = same-schema s t ks in
+      judged-next _ _ _ _ _ (keyword-name s t h k head ks)
+      (judged-next _ _ _ _ _ (too-many s t ks)
+      (judged-next _ _ _ _ _ (duplicate-name s t ks)
+      (judged-next _ _ _ _ _ (unknown-from s t [] [] SameDeclarations.done ks)
+      (judged-next _ _ _ _ _ (out-of-range s t ks)
+      (judged-next _ _ _ _ _ (same-large s t schema)
+      (judged-next _ _ _ _ _ (same-ragged s t schema) (last (no-target s t h k head schema))))))))
+    where
+      target : Bool → Verdict
+      target b = refuseIf b Refusal.NoTarget Verdict.Pass
+
+      last : {a b : Bool} → a ≡ b
+          → R (refuseIf (misstated (newSchema s ds)) Refusal.Misstated (target a)) (refuseIf (misstated (newSchema t es)) Refusal.Misstated (target b))
+      last {a} e = rw (← e) (m (target a))
+
 -- `v` is 17, or it is `w`
 abbrev Judged : Verdict → Verdict → Type 0
 Judged v w = (v ≡ Verdict.Refuse Refusal.Misstated) ⊎ (v ≡ w)
 
-judged-next : (a b : Bool) (why : Refusal) (v w : Verdict) → a ≡ b → Judged v w → Judged (refuseIf a why v) (refuseIf b why w)
-judged-next true true why v w e h = inr refl
-judged-next true false why v w e h = impossible (cc)
-judged-next false true why v w e h = impossible (cc)
-judged-next false false why v w e h = h
-
-judged-here : (a b : Bool) (v w : Verdict) → b ≡ false → v ≡ w → Judged (refuseIf a Refusal.Misstated v) (refuseIf b Refusal.Misstated w)
-judged-here a true v w e h = impossible (cc)
-judged-here true false v w e h = inl refl
-judged-here false false v w e h = inr h
+judged-here : (a b : Bool) → b ≡ false → (v : Verdict) → Judged (refuseIf a Refusal.Misstated v) (refuseIf b Refusal.Misstated v)
+judged-here a true e v = impossible (cc)
+judged-here true false e v = inl refl
+judged-here false false e v = inr refl
 
 pub same-verdict : (s t : Text) (h k : Head) (ds es : List Declaration) → SameHead s t h k → SameDeclarations s t ds es
     → misstated (newSchema t es) ≡ false
     → (verdict s h ds (newSchema s ds) ≡ Verdict.Refuse Refusal.Misstated) ⊎ (verdict s h ds (newSchema s ds) ≡ verdict t k es (newSchema t es))
-unfolding verdict
 same-verdict s t h k ds es head ks e =
-    let schema : SameSchema s t (newSchema s ds) (newSchema t es) = same-schema s t ks in
-    judged-next _ _ _ _ _ (keyword-name s t h k head ks)
-    (judged-next _ _ _ _ _ (too-many s t ks)
-    (judged-next _ _ _ _ _ (duplicate-name s t ks)
-    (judged-next _ _ _ _ _ (unknown-from s t [] [] SameDeclarations.done ks)
-    (judged-next _ _ _ _ _ (out-of-range s t ks)
-    (judged-next _ _ _ _ _ (same-large s t schema)
-    (judged-next _ _ _ _ _ (same-ragged s t schema)
-    (judged-here (misstated (newSchema s ds)) (misstated (newSchema t es)) _ _ e
-    (ap (λ (b : Bool). refuseIf b Refusal.NoTarget Verdict.Pass) (no-target s t h k head schema)))))))))
+    judged Judged (λ v. inr refl) s t h k ds es head ks (judged-here (misstated (newSchema s ds)) (misstated (newSchema t es)) e)
+
+-- and where 17 is met alike too
+pub stated-verdict : (s t : Text) (h k : Head) (ds es : List Declaration) → SameHead s t h k → SameDeclarations s t ds es
+    → misstated (newSchema s ds) ≡ misstated (newSchema t es) → verdict s h ds (newSchema s ds) ≡ verdict t k es (newSchema t es)
+stated-verdict s t h k ds es head ks e =
+    judged (λ v w. v ≡ w) (λ v. refl) s t h k ds es head ks λ v. ap (λ (b : Bool). refuseIf b Refusal.Misstated v) e

@@ -1,15 +1,28 @@
--- Rests of two texts of which the second leaves out lines `bits`: byte by byte the same, but for lines that begin with `bits=`.
+-- Rests of two texts of which the second leaves out lines: byte by byte the same, but for lines that begin with `bits=`, or for those that begin with `raw=`.
 -- Assumes nothing.
 use mathlib.Core.Bool.{Bool, true, false}
 use mathlib.Core.List.{[], _∷_}
-use mathlib.Core.Path.{_≡_, refl}
+use mathlib.Core.Path.{_≡_, refl, _∙_}
 use Prim.Native.Nat.{ℕ, _≤_, _<_}
 use native.Mathlib.Omega.{arith}
 use lib.Dec.{eqb}
 use lib.ListN.{length}
-use Rattle.definitions.specs.Bytes.{Text, pick}
+use Rattle.definitions.specs.Bytes.{Text, text, pick}
+use Rattle.definitions.specs.Record.{keyOf}
 use Rattle.lengths.proofs.Booleans.{impossible}
-use Rattle.alike.specs.Without.{beginsBits, sift, withoutBits}
+use Rattle.alike.specs.Without.{begins, sift, without, withoutBits, withoutRaw}
+
+-- the lines that the second text leaves out
+pub data LeftOut : Type 0 where
+  none : LeftOut
+  bits : LeftOut
+  raw : LeftOut
+
+-- one of them begins here
+abbrev pub isOut : LeftOut → Text → Bool
+isOut LeftOut.none u = false
+isOut LeftOut.bits u = begins (text "bits=") u
+isOut LeftOut.raw u = begins (text "raw=") u
 
 -- at the beginning of a line, inside of one, or inside of one that is left out
 pub data Place : Type 0 where
@@ -21,74 +34,84 @@ pub data Place : Type 0 where
 abbrev pub behind : Bool → Place → Place
 behind b m = pick b start m
 
--- `kept`: the lines `bits` stand in both, else in none of the second text
-pub data Rests (kept : Bool) : Place → Text → Text → Type 0 where
-  done : Rests kept inside [] []
-  gone : Rests kept away [] []
-  next : {x : ℕ} {u v : Text} → Rests kept (behind (eqb x 10) inside) u v → Rests kept inside (x ∷ u) (x ∷ v)
-  skip : {x : ℕ} {u v : Text} → Rests kept (behind (eqb x 10) away) u v → Rests kept away (x ∷ u) v
-  same : {u v : Text} → pick kept false (beginsBits u) ≡ false → Rests kept inside u v → Rests kept start u v
-  cut : {u v : Text} → kept ≡ false → beginsBits u ≡ true → Rests kept away u v → Rests kept start u v
+pub data Rests (out : LeftOut) : Place → Text → Text → Type 0 where
+  done : Rests out inside [] []
+  gone : Rests out away [] []
+  next : {x : ℕ} {u v : Text} → Rests out (behind (eqb x 10) inside) u v → Rests out inside (x ∷ u) (x ∷ v)
+  skip : {x : ℕ} {u v : Text} → Rests out (behind (eqb x 10) away) u v → Rests out away (x ∷ u) v
+  same : {u v : Text} → isOut out u ≡ false → Rests out inside u v → Rests out start u v
+  cut : {u v : Text} → isOut out u ≡ true → Rests out away u v → Rests out start u v
 
--- ---- a text and the same without its lines `bits`
+-- ---- a text and the same without its lines that begin with `key`
 
-begins : (u : Text) (c : Bool) → beginsBits u ≡ c → Rests false away u (sift true u) → Rests false inside u (sift false u) → Rests false start u (sift c u)
-begins u true e f g = cut refl e f
-begins u false e f g = same e g
+module _ (out : LeftOut) (key : Text) (law : (u : Text) → isOut out u ≡ begins key u) where
+  begun : (u : Text) (c : Bool) → begins key u ≡ c → Rests out away u (sift key true u) → Rests out inside u (sift key false u)
+      → Rests out start u (sift key c u)
+  begun u true e f g = cut (law u ∙ e) f
+  begun u false e f g = same (law u ∙ e) g
 
-sifted : (b : Bool) (u : Text) → Rests false (pick b away inside) u (sift b u)
-unfolding sift
-sifted true [] = gone
-sifted false [] = done
-sifted b (x ∷ u) = by b (eqb x 10) refl (sifted b u) (begins u (beginsBits u) refl (sifted true u) (sifted false u))
-  where
-    by : (b c : Bool) → eqb x 10 ≡ c → Rests false (pick b away inside) u (sift b u) → Rests false start u (sift (beginsBits u) u)
-        → Rests false (pick b away inside) (x ∷ u) (elim c [
-          | true ↦ pick b (sift (beginsBits u) u) (x ∷ sift (beginsBits u) u)
-          | false ↦ pick b (sift b u) (x ∷ sift b u)
-        ])
-    by true true e f g = skip {x = x} {u = u} {v = sift (beginsBits u) u} (rw e g)
-    by true false e f g = skip {x = x} {u = u} {v = sift true u} (rw e f)
-    by false true e f g = next {x = x} {u = u} {v = sift (beginsBits u) u} (rw e g)
-    by false false e f g = next {x = x} {u = u} {v = sift false u} (rw e f)
+  sifted : (b : Bool) (u : Text) → Rests out (pick b away inside) u (sift key b u)
+  unfolding sift
+  sifted true [] = gone
+  sifted false [] = done
+  sifted b (x ∷ u) = by b (eqb x 10) refl (sifted b u) (begun u (begins key u) refl (sifted true u) (sifted false u))
+    where
+      by : (b c : Bool) → eqb x 10 ≡ c → Rests out (pick b away inside) u (sift key b u) → Rests out start u (without key u)
+          → Rests out (pick b away inside) (x ∷ u) (elim c [
+            | true ↦ pick b (without key u) (x ∷ without key u)
+            | false ↦ pick b (sift key b u) (x ∷ sift key b u)
+          ])
+      by true true e f g = skip {x = x} {u = u} {v = without key u} (rw e g)
+      by true false e f g = skip {x = x} {u = u} {v = sift key true u} (rw e f)
+      by false true e f g = next {x = x} {u = u} {v = without key u} (rw e g)
+      by false false e f g = next {x = x} {u = u} {v = sift key false u} (rw e f)
 
-pub without : (s : Text) → Rests false start s (withoutBits s)
+  left : (s : Text) → Rests out start s (without key s)
+  left s = begun s (begins key s) refl (sifted true s) (sifted false s)
+
+pub bits-sifted : (s : Text) → Rests LeftOut.bits start s (withoutBits s)
 unfolding withoutBits
-without s = begins s (beginsBits s) refl (sifted true s) (sifted false s)
+bits-sifted s = left LeftOut.bits (text "bits=") (λ u. refl) s
 
--- ---- a text and itself, with its lines `bits`
+pub raw-sifted : (s : Text) → Rests LeftOut.raw start s (withoutRaw s)
+unfolding withoutRaw
+raw-sifted s = left LeftOut.raw (text "raw=") (λ u. refl) s
 
-pub itself : (u : Text) → Rests true inside u u
+-- ---- a text and itself
+
+pub itself : (u : Text) → Rests LeftOut.none inside u u
 itself [] = done
 itself (x ∷ u) = next (by (eqb x 10) (itself u))
   where
-    by : (b : Bool) → Rests true inside u u → Rests true (behind b inside) u u
+    by : (b : Bool) → Rests LeftOut.none inside u u → Rests LeftOut.none (behind b inside) u u
     by true r = same refl r
     by false r = r
 
-pub itself-line : (u : Text) → Rests true start u u
+pub itself-line : (u : Text) → Rests LeftOut.none start u u
 itself-line u = same refl (itself u)
 
--- ---- lines that are no lines `bits`
+-- ---- where no line is left out
 
-pub same-line : {kept : Bool} {u v : Text} → beginsBits u ≡ false → Rests kept start u v → Rests kept inside u v
+pub same-line : {out : LeftOut} {u v : Text} → isOut out u ≡ false → Rests out start u v → Rests out inside u v
 same-line e (same f r) = r
-same-line e (cut k f r) = impossible (cc)
+same-line e (cut f r) = impossible (cc)
 
-pub at-line : (kept : Bool) {u v : Text} → beginsBits u ≡ false → Rests kept inside u v → Rests kept start u v
-at-line true e r = same refl r
-at-line false e r = same e r
+pub nothing-out : (out : LeftOut) → isOut out [] ≡ false
+unfolding begins keyOf
+nothing-out LeftOut.none = refl
+nothing-out LeftOut.bits = refl
+nothing-out LeftOut.raw = refl
 
 -- ---- how much is left
 
-pub shorter : {kept : Bool} {m : Place} {u v : Text} → Rests kept m u v → length v ≤ length u
+pub shorter : {out : LeftOut} {m : Place} {u v : Text} → Rests out m u v → length v ≤ length u
 shorter done = omega arith
 shorter gone = omega arith
 shorter (next {u = u} {v = v} r) = let z : length v ≤ length u = shorter r in omega arith
 shorter (skip {u = u} {v = v} r) = let z : length v ≤ length u = shorter r in omega arith
 shorter (same e r) = shorter r
-shorter (cut k e r) = shorter r
+shorter (cut e r) = shorter r
 
-pub left-too : {kept : Bool} {u v : Text} → Rests kept inside u v → 0 < length u → 0 < length v
+pub left-too : {out : LeftOut} {u v : Text} → Rests out inside u v → 0 < length u → 0 < length v
 left-too done h = absurd (omega arith)
 left-too (next r) h = omega arith

@@ -1,4 +1,5 @@
--- A text without its lines `bits` (document 02, Card 10): two records differ only in such lines where they are equal without them.
+-- A text without the lines that begin with a key. Lines `bits` (document 02, Card 10): two records differ only in such lines where they are equal without
+-- them. The line `raw` (Card 7): without it the record is the one that asks for no numbers.
 -- Assumes nothing.
 use mathlib.Core.Bool.{Bool, true, false}
 use mathlib.Core.List.{[], _∷_}
@@ -7,22 +8,41 @@ use Prim.Native.Nat.{ℕ}
 use lib.Dec.{eqb}
 use Rattle.definitions.specs.Bytes.{Text, text, pick}
 use Rattle.definitions.specs.Record.{keyOf, isFound}
+use Rattle.definitions.specs.declared.Raw.{Raw}
+use Rattle.definitions.specs.declared.Head.{Head}
 
--- what follows begins with `bits=`
-unfoldable pub beginsBits : Text → Bool
-beginsBits s = isFound (keyOf (text "bits=") s 0)
+-- what follows begins with `key`
+unfoldable pub begins : Text → Text → Bool
+begins key s = isFound (keyOf key s 0)
 
 -- `cut` says that the line which goes on here is left out, with its newline
-unfoldable pub sift : Bool → Text → Text
-sift cut [] = []
-sift cut (x ∷ s) = elim (eqb x 10) [
-  | true ↦ pick cut (sift (beginsBits s) s) (x ∷ sift (beginsBits s) s)
-  | false ↦ pick cut (sift cut s) (x ∷ sift cut s)
+unfoldable pub sift : Text → Bool → Text → Text
+sift key cut [] = []
+sift key cut (x ∷ s) = elim (eqb x 10) [
+  | true ↦ pick cut (sift key (begins key s) s) (x ∷ sift key (begins key s) s)
+  | false ↦ pick cut (sift key cut s) (x ∷ sift key cut s)
 ]
 
-unfoldable pub withoutBits : Text → Text
-withoutBits s = sift (beginsBits s) s
+abbrev pub without : Text → Text → Text
+without key s = sift key (begins key s) s
 
--- the answers that such a line has no part in: all but 1, whose bytes it counts among, 2 and 17
+unfoldable pub withoutBits : Text → Text
+withoutBits s = without (text "bits=") s
+
+unfoldable pub withoutRaw : Text → Text
+withoutRaw s = without (text "raw=") s
+
+-- the answers that a line `bits` has no part in: all but 1, whose bytes it counts among, 2 and 17
 abbrev pub Apart : ℕ → Type 0
 Apart n = (n ≢ 1) × (n ≢ 2) × (n ≢ 17)
+
+-- a head that chooses this of `raw`, and as it is without that line
+abbrev pub choosing : Raw → Head → Head
+choosing m h =
+    record {
+      options = record { endianness = h .options .endianness; arrays = h .options .arrays; trailing = h .options .trailing; raw = m };
+      target = h .target;
+    }
+
+abbrev pub plainHead : Head → Head
+plainHead h = choosing Raw.Plain h

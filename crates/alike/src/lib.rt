@@ -1,2 +1,3 @@
 // Texts count, and places do not: two records that say the same at other places are lowered alike; no code. Document 02, Card 10: lines `bits` that are put
-// in or taken out (specs/Without) change no byte of an accepted record's lines. proofs/Ignored has the theorem and is to be read first.
+// in or taken out (specs/Without) change no byte of an accepted record's lines. Card 7: without its line `raw` a record is lowered as one that chooses `plain`.
+// proofs/Ignored and proofs/Plainly have the theorems and are to be read first.

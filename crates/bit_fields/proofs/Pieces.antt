@@ -1,18 +1,32 @@
 -- Each line of a bit field, from the pieces that are written one after the other.
 -- Assumes nothing.
-use mathlib.Core.List.{[], _++_, append-assoc}
+use mathlib.Core.List.{[], _∷_, _++_, append-assoc}
 use mathlib.Core.Path.{_≡_, sym, ap, _∙_}
 use Prim.Native.Nat.{ℕ}
 use Rattle.definitions.specs.Bytes.{Text, text, decimal, hexadecimal}
-use Rattle.definitions.specs.Lines.{srcText}
+use Rattle.definitions.specs.Lines.{Test, Before, Line, srcText, linesText}
 use Rattle.definitions.specs.Blocks.{named, readOf}
 use Rattle.definitions.specs.declared.Arrays.{Arrays}
 use Rattle.definitions.specs.declared.EndiannessValue.{EndiannessValue}
-use Rattle.stream.proofs.Texts.{src-leads}
+use Rattle.stream.proofs.Texts.{src-leads, lines-leads}
 use Rattle.text.specs.Put.{Put}
 use Rattle.text.proofs.Puts.{chain, like}
+use Rattle.definitions.specs.declared.Raw.{Raw}
+use Rattle.bit_fields.specs.declared.RawValue.{RawValue}
 use Rattle.bit_fields.specs.declared.Source.{Source}
-use Rattle.bit_fields.specs.Kinds.{sourceIn, sourceText, setText, conditionText, openEnumText, closedEnumText, fixedScalarText, fixedEnumText}
+use Rattle.bit_fields.specs.Kinds.{sourceIn, sourceText, setText, conditionText, openEnumText, rawText, testedText, closedEnumText, fixedScalarText, fixedEnumText}
+
+-- the variable of a tested enum
+module _ (x : RawValue) where
+  pub raw-plain : (a t : Text) {l l₁ : Text} {i r : ℕ} → x .raw ≡ Raw.Plain → Put l i (a ++ (text "raw_value" ++ t)) r l₁
+      → Put l i (a ++ (rawText x ++ t)) r l₁
+  unfolding rawText
+  raw-plain a t e p = rw e p
+
+  pub raw-numbered : (a t : Text) {l l₁ l₂ : Text} {i r₁ r₂ : ℕ} → x .raw ≡ Raw.Numbered → Put l i a r₁ l₁
+      → Put l₁ r₁ (text "raw_value" ++ (decimal (x .nr) ++ t)) r₂ l₂ → Put l i (a ++ (rawText x ++ t)) r₂ l₂
+  unfolding rawText
+  raw-numbered a t e p q = rw e (like (simp append-assoc) (chain p q))
 
 module _ (v : Source) where
   pub source-read : (a t : Text) (order : EndiannessValue) (w : ℕ) {l l₁ : Text} {i r : ℕ} → v ≡ Source.Read order w
@@ -46,15 +60,28 @@ module _ (v : Source) where
   unfolding sourceText openEnumText
   open-line m name type p q s = like (simp append-assoc) (chain p (chain q s))
 
-  pub closed-lines : (m : Arrays) (name type : Text) {l l₁ l₂ l₃ l₄ : Text} {i r₁ r₂ r₃ r₄ : ℕ}
-      → Put l i (text "auto raw_value = " ++ sourceText v (text ";\nif (!IsValid")) r₁ l₁
-      → Put l₁ r₁ ([] ++ (type ++ text "(raw_value)) {\n   return false;\n}\n")) r₂ l₂ → Put l₂ r₂ (named m name (text "_")) r₃ l₃
-      → Put l₃ r₃ (text " = " ++ (type ++ text "(raw_value);\n")) r₄ l₄ → Put l i (closedEnumText m name type v) r₄ l₄
-  unfolding sourceText closedEnumText
-  closed-lines m name type p q s u =
-      like
-      (ap (λ (x : Text). text "auto raw_value = " ++ x) (sym (split (text ";\nif (!IsValid") _) ∙ ap (sourceText v) (simp append-assoc)))
-      (chain p (chain q (chain s u)))
+  module _ (x : RawValue) where
+    pub tested-lines : (type : Text) {l l₁ l₂ l₃ l₄ : Text} {i r₁ r₂ r₃ r₄ : ℕ} → Put l i (text "auto " ++ (rawText x ++ text " = ")) r₁ l₁
+        → Put l₁ r₁ ([] ++ sourceText v (text ";\nif (!IsValid")) r₂ l₂ → Put l₂ r₂ ([] ++ (type ++ text "(")) r₃ l₃
+        → Put l₃ r₃ ([] ++ (rawText x ++ text ")) {\n   return false;\n}\n")) r₄ l₄ → Put l i (testedText type x v) r₄ l₄
+    unfolding sourceText testedText
+    tested-lines type p q s u =
+        like
+        (append-assoc (text "auto ") (rawText x ++ text " = ") _
+        ∙ ap (λ (y : Text). text "auto " ++ y)
+        (append-assoc (rawText x) (text " = ") _
+        ∙ ap (λ (y : Text). rawText x ++ (text " = " ++ y)) (sym (split (text ";\nif (!IsValid") _) ∙ ap (sourceText v) (simp append-assoc))))
+        (chain p (chain q (chain s u)))
+
+    pub closed-lines : (m : Arrays) (name type : Text) {l l₁ l₂ l₃ l₄ : Text} {i r₁ r₂ r₃ r₄ : ℕ} → Put l i (testedText type x v) r₁ l₁
+        → Put l₁ r₁ (named m name (text "_")) r₂ l₂ → Put l₂ r₂ (text " = " ++ (type ++ text "(")) r₃ l₃
+        → Put l₃ r₃ ([] ++ (rawText x ++ text ");\n")) r₄ l₄ → Put l i (closedEnumText m name type x v) r₄ l₄
+    unfolding testedText closedEnumText
+    closed-lines m name type p q s u =
+        like
+        (sym (lines-leads 0 (Line.set Before.auto (rawText x) (sourceIn v) ∷ Line.check 3 (Test.notValid type (rawText x)) ∷ []) .split [] _)
+        ∙ ap (linesText 0 (Line.set Before.auto (rawText x) (sourceIn v) ∷ Line.check 3 (Test.notValid type (rawText x)) ∷ [])) (simp append-assoc))
+        (chain p (chain q (chain s u)))
 
   pub fixed-line : (value : ℕ) {l l₁ l₂ : Text} {i r₁ r₂ : ℕ} → Put l i (text "if (static_cast<uint64_t>(" ++ sourceText v (text ") != ")) r₁ l₁
       → Put l₁ r₁ ([] ++ (hexadecimal value ++ text ") {\n    return false;\n}\n")) r₂ l₂ → Put l i (fixedScalarText value v) r₂ l₂

@@ -1,14 +1,15 @@
 -- The kinds and sources of the code, as those of the definitions, and the bytes of their lines.
 -- Assumes nothing.
-use mathlib.Core.List.{[]}
+use mathlib.Core.List.{[], _∷_}
 use Prim.Native.Nat.{ℕ}
 use Rattle.definitions.specs.Bytes.{Text, text, part}
-use Rattle.definitions.specs.Lines.{Src, Line, Before, srcText, lineText, linesText}
-use Rattle.definitions.specs.Blocks.{Kind, named, readOf, chunkName, span, kindLines}
+use Rattle.definitions.specs.Lines.{Src, Test, Line, Before, srcText, lineText, linesText}
+use Rattle.definitions.specs.Blocks.{Kind, named, readOf, chunkName, span, rawName, kindLines}
 use Rattle.definitions.specs.declared.Arrays.{Arrays}
 use Rattle.names.specs.Written.{nameText}
 use Rattle.bit_fields.specs.declared.End.{End}
 use Rattle.bit_fields.specs.declared.KindAt.{KindAt}
+use Rattle.bit_fields.specs.declared.RawValue.{RawValue}
 use Rattle.bit_fields.specs.declared.Source.{Source}
 
 -- ---- what they are in the definitions
@@ -48,20 +49,28 @@ conditionText name v = lineText 0 (Line.set Before.condition name (sourceIn v)) 
 
 -- `x = T(v);`
 unfoldable pub openEnumText : Arrays → Text → Text → Source → Text
-openEnumText m name type v = linesText 0 (kindLines (sourceIn v) (Kind.openEnum (named m name (text "_")) type)) []
+openEnumText m name type v = lineText 0 (Line.setCast (named m name (text "_")) type (sourceIn v)) []
 
--- `auto raw_value = v;`, `if (!IsValidT(raw_value)) {` .., `x = T(raw_value);`
-unfoldable pub closedEnumText : Arrays → Text → Text → Source → Text
-closedEnumText m name type v = linesText 0 (kindLines (sourceIn v) (Kind.closedEnum (named m name (text "_")) type)) []
+-- `raw_value`, with or without its number
+unfoldable pub rawText : RawValue → Text
+rawText x = rawName (x .raw) (x .nr)
+
+-- `auto raw_value = v;`, `if (!IsValidT(raw_value)) {` ..
+unfoldable pub testedText : Text → RawValue → Source → Text
+testedText type x v = linesText 0 (Line.set Before.auto (rawText x) (sourceIn v) ∷ Line.check 3 (Test.notValid type (rawText x)) ∷ []) []
+
+-- these, and `x = T(raw_value);`
+unfoldable pub closedEnumText : Arrays → Text → Text → RawValue → Source → Text
+closedEnumText m name type x v = linesText 0 (kindLines (rawText x) (sourceIn v) (Kind.closedEnum (named m name (text "_")) type)) []
 
 -- `if (static_cast<uint64_t>(v) != 0x1f) {` ..
 unfoldable pub fixedScalarText : ℕ → Source → Text
-fixedScalarText value v = linesText 0 (kindLines (sourceIn v) (Kind.fixedScalar value)) []
+fixedScalarText value v = lineText 0 (Line.check 4 (Test.notFixed (sourceIn v) value)) []
 
 -- `if (T(v) != T::TAG) {` ..
 unfoldable pub fixedEnumText : Text → Text → Source → Text
-fixedEnumText type tag v = linesText 0 (kindLines (sourceIn v) (Kind.fixedEnum type tag)) []
+fixedEnumText type tag v = lineText 0 (Line.check 4 (Test.notTag type (sourceIn v) tag)) []
 
 -- the lines of a kind
-unfoldable pub kindText : Arrays → Text → Text → Source → KindAt → Text
-kindText m s word v k = linesText 0 (kindLines (sourceIn v) (kindIn m s word k)) []
+unfoldable pub kindText : Arrays → Text → Text → RawValue → Source → KindAt → Text
+kindText m s word x v k = linesText 0 (kindLines (rawText x) (sourceIn v) (kindIn m s word k)) []

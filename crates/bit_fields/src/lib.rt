@@ -3,10 +3,11 @@
 use definitions::Arrays;
 use definitions::EndiannessValue;
 use definitions::Part;
+use definitions::Raw;
 use names::WrittenName;
 ghost use mathlib.Core.List.{_++_};
 ghost use Rattle.text.specs.Put.{Put};
-ghost use Rattle.bit_fields.specs.Kinds.{endText, sourceText, setText, conditionText, openEnumText, closedEnumText, fixedScalarText, fixedEnumText, kindText};
+ghost use Rattle.bit_fields.specs.Kinds.{endText, sourceText, setText, conditionText, openEnumText, rawText, testedText, closedEnumText, fixedScalarText, fixedEnumText, kindText};
 
 // What stands behind the name of a variable: `_`, `_size_`, `_count_`, `_element_size_`.
 pub enum End {
@@ -25,6 +26,12 @@ pub enum KindAt {
     ClosedEnum { id: Part, type_id: Part },
     FixedScalar { value: u64 },
     FixedEnum { enum_id: Part, tag_id: Part },
+}
+
+// The variable that a tested enum is held in: what the head says of its name, and how many tested enums the target has before it (document 02, Card 7).
+pub struct RawValue {
+    pub raw: Raw,
+    pub nr: u64,
 }
 
 // Where the bits come from: a read of so many bits, or a chunk's variable.
@@ -93,14 +100,46 @@ fn put_open_enum(out: &mut [u8], at: usize, m: Arrays, name: &[u8], ty: &[u8], v
     put_source(out, q, b"", v, b");\n")
 }
 
-// `auto raw_value = v;`, the test, and `x = T(raw_value);`
-fn put_closed_enum(out: &mut [u8], at: usize, m: Arrays, name: &[u8], ty: &[u8], v: Source) -> usize
-    ensures { λ r. ⌜ Put (now (out .entry)) at (closedEnumText m (now (name .entry)) (now (ty .entry)) v) r (now (out .exit)) ⌝ }
+// `raw_value`, or `raw_value7`, between two pieces.
+fn put_raw(out: &mut [u8], at: usize, before: &[u8], x: RawValue, behind: &[u8]) -> usize
+    ensures { λ r. ⌜ Put (now (out .entry)) at (now (before .entry) ++ (rawText x ++ now (behind .entry))) r (now (out .exit)) ⌝ }
 {
-    let p = put_source(out, at, b"auto raw_value = ", v, b";\nif (!IsValid");
-    let q = text::put_name(out, p, b"", ty, b"(raw_value)) {\n   return false;\n}\n");
-    let r = expressions::put_target(out, q, m, name, b"_");
-    text::put_name(out, r, b" = ", ty, b"(raw_value);\n")
+    let raw = x.raw;
+    match raw {
+        Raw::Plain => text::put_name(out, at, before, b"raw_value", behind),
+        Raw::Numbered => {
+            let p = text::put(out, at, before);
+            text::put_number(out, p, b"raw_value", x.nr, behind)
+        }
+    }
+}
+
+// `auto raw_value = v;`, and the test.
+fn put_tested(out: &mut [u8], at: usize, ty: &[u8], x: RawValue, v: Source) -> usize
+    ensures { λ r. ⌜ Put (now (out .entry)) at (testedText (now (ty .entry)) x v) r (now (out .exit)) ⌝ }
+{
+    let p = put_raw(out, at, b"auto ", x, b" = ");
+    let q = put_source(out, p, b"", v, b";\nif (!IsValid");
+    let s = text::put_name(out, q, b"", ty, b"(");
+    put_raw(out, s, b"", x, b")) {\n   return false;\n}\n")
+}
+
+// These, and `x = T(raw_value);`
+fn put_closed_enum(
+    out: &mut [u8],
+    at: usize,
+    m: Arrays,
+    name: &[u8],
+    ty: &[u8],
+    x: RawValue,
+    v: Source,
+) -> usize
+    ensures { λ r. ⌜ Put (now (out .entry)) at (closedEnumText m (now (name .entry)) (now (ty .entry)) x v) r (now (out .exit)) ⌝ }
+{
+    let p = put_tested(out, at, ty, x, v);
+    let q = expressions::put_target(out, p, m, name, b"_");
+    let s = text::put_name(out, q, b" = ", ty, b"(");
+    put_raw(out, s, b"", x, b");\n")
 }
 
 // `if (static_cast<uint64_t>(v) != 0x1f) {` ..
@@ -121,17 +160,18 @@ fn put_fixed_enum(out: &mut [u8], at: usize, ty: &[u8], tag: &[u8], v: Source) -
     text::put_name(out, r, b"", tag, b") {\n    return false;\n}\n")
 }
 
-// The lines of a bit field whose bits are v.
+// The lines of a bit field whose bits are v; a tested enum is held in x.
 pub fn put_kind<'a>(
     rec: &'a [u8],
     word: &'a [u8],
     out: &mut [u8],
     at: usize,
     m: Arrays,
+    x: RawValue,
     v: Source,
     k: KindAt,
 ) -> usize
-    ensures { λ r. ⌜ Put (now (out .entry)) at (kindText m (now (rec .entry)) (now (word .entry)) v k) r (now (out .exit)) ⌝ }
+    ensures { λ r. ⌜ Put (now (out .entry)) at (kindText m (now (rec .entry)) (now (word .entry)) x v k) r (now (out .exit)) ⌝ }
 {
     match k {
         KindAt::Reserved => at,
@@ -158,6 +198,7 @@ pub fn put_kind<'a>(
             m,
             names::part(rec, id),
             names::part(rec, type_id),
+            x,
             v,
         ),
         KindAt::FixedScalar { value } => put_fixed_scalar(out, at, value, v),

@@ -3,13 +3,15 @@
 use mathlib.Core.Bool.{Bool, true, false, _&&_}
 use mathlib.Core.List.{List, [], _∷_, _++_}
 use mathlib.Core.Path.{_≡_}
-use Prim.Native.Nat.{ℕ, zero, suc, _+_, _/_, _≤_, _<_}
+use Prim.Native.Nat.{ℕ, zero, suc, _+_, _/_, _≤_, _<_, _^_}
 use lib.ListN.{getD}
 use Rattle.definitions.specs.Bytes.{Text}
 use Rattle.definitions.specs.Lines.{Line, Before, lineText, linesText}
 use Rattle.definitions.specs.Blocks.{Bit, bitsLines, chunkName, getCxxScalarType, readOf, span}
+use Rattle.definitions.specs.Blocks as blocks
 use Rattle.definitions.specs.declared.Arrays.{Arrays}
 use Rattle.definitions.specs.declared.EndiannessValue.{EndiannessValue}
+use Rattle.definitions.specs.declared.Options.{Options}
 use Rattle.bit_fields.specs.declared.KindAt.{KindAt}
 use Rattle.bit_fields.specs.Kinds.{kindIn}
 use Rattle.chunk_lines.specs.declared.Chunk.{Chunk}
@@ -24,6 +26,16 @@ isReservedAt (KindAt.OpenEnum id type) = false
 isReservedAt (KindAt.ClosedEnum id type) = false
 isReservedAt (KindAt.FixedScalar value) = false
 isReservedAt (KindAt.FixedEnum type tag) = false
+
+-- a tested enum takes a number
+abbrev pub nextRawAt : ℕ → KindAt → ℕ
+nextRawAt k KindAt.Reserved = k
+nextRawAt k (KindAt.Number name end) = k
+nextRawAt k (KindAt.Condition id) = k
+nextRawAt k (KindAt.OpenEnum id type) = k
+nextRawAt k (KindAt.ClosedEnum id type) = k + 1
+nextRawAt k (KindAt.FixedScalar value) = k
+nextRawAt k (KindAt.FixedEnum type tag) = k
 
 -- the kind of the field i
 abbrev pub heldAt : List Held → ℕ → KindAt
@@ -53,6 +65,13 @@ bitsOf m s word c kinds (suc n) = bitsOf m s word c kinds n ++ (bitAt m s word c
 abbrev pub aloneOf : Arrays → Text → Text → ℕ → KindAt → List Bit
 aloneOf m s word width kind = record { shift = 0; width = width; kind = kindIn m s word kind } ∷ []
 
+-- the definitions' chunk of these fields
+abbrev pub chunkOf : WholeChunk → List Bit → blocks.Chunk
+chunkOf whole bs = record { nr = whole .nr; rawNr = whole .raws; fields = bs }
+
+abbrev pub loneOf : ℕ → ℕ → List Bit → blocks.Chunk
+loneOf nr raws bs = record { nr = nr; rawNr = raws; fields = bs }
+
 -- ---- bytes
 
 -- `span.skip(N); // skip reserved fields`
@@ -60,8 +79,9 @@ unfoldable pub skipText : ℕ → Text
 skipText bits = lineText 0 (Line.reserved span (bits / 8)) []
 
 -- the lines of the first n fields, out of the chunk's variable
-unfoldable pub bitsText : Arrays → Text → Text → ℕ → Chunk → List Held → ℕ → Text
-bitsText m s word nr c kinds n = linesText 0 (bitsLines (chunkName nr) (bitsOf m s word c kinds n)) []
+unfoldable pub bitsText : Options → Text → Text → WholeChunk → Chunk → List Held → ℕ → Text
+bitsText o s word whole c kinds n =
+    linesText 0 (bitsLines (o .raw) (chunkName (whole .nr)) (whole .raws) (bitsOf (o .arrays) s word c kinds n)) []
 
 -- `uintW_t chunkN = span.read_le<uintW_t, N>();`
 unfoldable pub headText : EndiannessValue → ℕ → ℕ → ℕ → Text
@@ -73,6 +93,10 @@ headText order nr backing w = lineText 0 (Line.set (Before.chunk backing) (chunk
 pub record Narrow (c : Chunk) : Type 0 where
   pub short : c .len ≤ 64
   pub narrow : (i : ℕ) → i < c .len → getD (c .widths) i 0 ≤ 64
+
+-- the numbers of 64 tested enums more fit
+abbrev pub Fits : WholeChunk → Type 0
+Fits whole = whole .raws + 64 < 2 ^ 64
 
 -- two fields or more at an octet boundary, with their bits and the backing type
 pub record Closed (c : Chunk) (kinds : List Held) (whole : WholeChunk) : Type 0 where

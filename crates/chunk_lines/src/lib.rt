@@ -1,16 +1,18 @@
 // A chunk of bit fields, by value, and the lines of a closed one: the later part of `parse_bit_field` of cxx.rs. Document 01, 'Lowering': a chunk of
 // reserved fields only becomes one skip, a chunk of one field reads into it, a larger one into `chunk0`, `chunk1` and so on.
 use bit_fields::KindAt;
+use bit_fields::RawValue;
 use bit_fields::Source;
-use definitions::Arrays;
 use definitions::EndiannessValue;
 use definitions::Options;
 ghost use mathlib.Core.Path.{_≡_};
-ghost use Prim.Native.Nat.{ℕ, _≤_, _<_};
+ghost use mathlib.Core.List.{List};
+ghost use Prim.Native.Nat.{ℕ, _+_, _≤_, _<_, _^_};
 ghost use Rattle.definitions.specs.Bytes.{Text};
+ghost use Rattle.definitions.specs.Blocks.{Bit, rawsBehind};
 ghost use Rattle.text.specs.Put.{Put};
 ghost use Rattle.stream.specs.Stream.{chunkText};
-ghost use Rattle.chunk_lines.specs.Bits.{isReservedAt, allReserved, Narrow, aloneOf, bitsOf, bitsText, headText, skipText, Closed};
+ghost use Rattle.chunk_lines.specs.Bits.{isReservedAt, nextRawAt, allReserved, Narrow, Fits, aloneOf, bitsOf, bitsText, headText, skipText, chunkOf, loneOf, Closed};
 
 // The shifts and the widths of its fields.
 pub struct Chunk {
@@ -24,12 +26,20 @@ pub struct Held {
     pub kind: KindAt,
 }
 
-// A closed chunk as a whole: its number, its bits and their backing type, and whether all of its fields are reserved.
+// A closed chunk as a whole: its number, how many tested enums are before it, its bits and their backing type, and whether all of its fields are
+// reserved.
 pub struct WholeChunk {
     pub nr: u64,
+    pub raws: u64,
     pub bits: u64,
     pub backing: u64,
     pub skip: bool,
+}
+
+// The place behind a chunk's lines, and how many tested enums the target has up to there.
+pub struct Written {
+    pub at: usize,
+    pub raws: u64,
 }
 
 fn is_reserved(k: KindAt) -> bool
@@ -46,6 +56,25 @@ fn is_reserved(k: KindAt) -> bool
             enum_id: _,
             tag_id: _,
         } => false,
+    }
+}
+
+// How many tested enums there are behind a field, where so many are before it: they alone take a number (document 02, Card 7).
+pub fn next_raw(raws: u64, k: KindAt) -> u64
+    requires { ⌜ raws + 1 < 2 ^ 64 ⌝ }
+    ensures { λ r. ⌜ r ≡ nextRawAt raws k ⌝ }
+{
+    match k {
+        KindAt::Reserved => raws,
+        KindAt::Number { name: _, end: _ } => raws,
+        KindAt::Condition { id: _ } => raws,
+        KindAt::OpenEnum { id: _, type_id: _ } => raws,
+        KindAt::ClosedEnum { id: _, type_id: _ } => raws + 1,
+        KindAt::FixedScalar { value: _ } => raws,
+        KindAt::FixedEnum {
+            enum_id: _,
+            tag_id: _,
+        } => raws,
     }
 }
 
@@ -73,29 +102,36 @@ fn put_bits<'a>(
     word: &'a [u8],
     out: &mut [u8],
     at: usize,
-    m: Arrays,
-    nr: u64,
+    options: Options,
     c: Chunk,
     kinds: [Held; 64],
-) -> usize
-    requires { ⌜ Narrow c ⌝ }
-    ensures { λ r. ⌜ Put (now (out .entry)) at (bitsText m (now (rec .entry)) (now (word .entry)) nr c kinds (c .len)) r (now (out .exit)) ⌝ }
+    whole: WholeChunk,
+) -> Written
+    requires { ⌜ Narrow c × Fits whole ⌝ }
+    ensures { λ r. let s : Text = now (rec .entry) in let w : Text = now (word .entry) in
+        ⌜ Put (now (out .entry)) at (bitsText options s w whole c kinds (c .len)) (r .at) (now (out .exit))
+        × (r .raws ≡ rawsBehind (whole .raws) (bitsOf (options .arrays) s w c kinds (c .len))) ⌝ }
 {
     let n = c.len;
+    let mut raws = whole.raws;
     let mut i = 0;
     let mut p = at;
     while i < n {
         let h = kinds[i];
         let k = h.kind;
+        let raw = options.raw;
+        let arrays = options.arrays;
         let v = Source::Bits {
-            nr,
+            nr: whole.nr,
             shift: c.shifts[i],
             mask: text::mask(c.widths[i]),
         };
-        p = bit_fields::put_kind(rec, word, out, p, m, v, k);
+        let x = RawValue { raw, nr: raws };
+        p = bit_fields::put_kind(rec, word, out, p, arrays, x, v, k);
+        raws = next_raw(raws, k);
         i += 1;
     }
-    p
+    Written { at: p, raws }
 }
 
 // `uintW_t chunkN = span.read_le<uintW_t, N>();`
@@ -127,26 +163,29 @@ fn put_skip(out: &mut [u8], at: usize, bits: u64) -> usize
     )
 }
 
-// The lines of a chunk of one field; it has no number.
+// The lines of a chunk of one field, which has no number; `raws` are the tested enums before it.
 pub fn put_alone<'a>(
     rec: &'a [u8],
     word: &'a [u8],
     out: &mut [u8],
     at: usize,
     options: Options,
+    raws: u64,
     width: u64,
     kind: KindAt,
 ) -> usize
-    ensures { λ r. let s : Text = now (rec .entry) in let w : Text = now (word .entry) in
-        ⌜ ((nr : ℕ) → Put (now (out .entry)) at (chunkText (options .endianness) nr (aloneOf (options .arrays) s w width kind)) r (now (out .exit))) ⌝ }
+    ensures { λ r. let bs : List Bit = aloneOf (options .arrays) (now (rec .entry)) (now (word .entry)) width kind in
+        ⌜ ((nr : ℕ) → Put (now (out .entry)) at (chunkText options (loneOf nr raws bs)) r (now (out .exit))) ⌝ }
 {
     if is_reserved(kind) {
         return put_skip(out, at, width);
     }
     let order = options.endianness;
+    let raw = options.raw;
     let arrays = options.arrays;
     let v = Source::Read { order, width };
-    bit_fields::put_kind(rec, word, out, at, arrays, v, kind)
+    let x = RawValue { raw, nr: raws };
+    bit_fields::put_kind(rec, word, out, at, arrays, x, v, kind)
 }
 
 // The lines of a larger chunk.
@@ -159,18 +198,19 @@ pub fn put_chunk<'a>(
     c: Chunk,
     kinds: [Held; 64],
     whole: WholeChunk,
-) -> usize
-    requires { ⌜ Closed c kinds whole ⌝ }
-    ensures { λ r. let s : Text = now (rec .entry) in let w : Text = now (word .entry) in
-        ⌜ Put (now (out .entry)) at (chunkText (options .endianness) (whole .nr) (bitsOf (options .arrays) s w c kinds (c .len))) r (now (out .exit)) ⌝ }
+) -> Written
+    requires { ⌜ Closed c kinds whole × Fits whole ⌝ }
+    ensures { λ r. let bs : List Bit = bitsOf (options .arrays) (now (rec .entry)) (now (word .entry)) c kinds (c .len) in
+        ⌜ Put (now (out .entry)) at (chunkText options (chunkOf whole bs)) (r .at) (now (out .exit)) × (r .raws ≡ rawsBehind (whole .raws) bs) ⌝ }
 {
     let bits = whole.bits;
     if whole.skip {
-        return put_skip(out, at, bits);
+        return Written {
+            at: put_skip(out, at, bits),
+            raws: whole.raws,
+        };
     }
-    let nr = whole.nr;
     let order = options.endianness;
-    let arrays = options.arrays;
-    let p = put_head(out, at, order, nr, whole.backing, bits);
-    put_bits(rec, word, out, p, arrays, nr, c, kinds)
+    let p = put_head(out, at, order, whole.nr, whole.backing, bits);
+    put_bits(rec, word, out, p, options, c, kinds, whole)
 }

@@ -7,13 +7,13 @@ use Prim.Native.Nat.{ℕ, _+_, _/_, _≤_, _<_, _^_}
 use lib.Dec.{eqb, ltb}
 use lib.ListN.{set, replicate}
 use Rattle.definitions.specs.Bytes.{Text}
-use Rattle.definitions.specs.Blocks.{Bit}
+use Rattle.definitions.specs.Blocks.{Bit, rawsBehind}
 use Rattle.definitions.specs.FieldParser.{nextNr}
-use Rattle.definitions.specs.declared.EndiannessValue.{EndiannessValue}
+use Rattle.definitions.specs.declared.Options.{Options}
 use Rattle.definitions.specs.declared.Refusal.{Refusal}
 use Rattle.definitions.specs.declared.Verdict.{Verdict}
 use Rattle.text.specs.Put.{Put}
-use Rattle.stream.specs.Stream.{checkText, chunkText}
+use Rattle.stream.specs.Stream.{checkText, chunkText, chunkAt}
 use Rattle.stream.specs.Stream as flow
 use Rattle.plans.specs.Told.{Advance}
 use Rattle.chunk_lines.specs.declared.Chunk.{Chunk}
@@ -25,10 +25,14 @@ use Rattle.chunks.specs.declared.Step.{Step}
 
 -- the state as the stream's, with the fields of its chunk
 abbrev pub seen : State → List Bit → flow.State
-seen t bs = record { shift = t .shift; chunk = bs; chunkNr = t .nr; pending = t .pending }
+seen t bs = record { shift = t .shift; chunk = bs; chunkNr = t .nr; rawNr = t .raws; pending = t .pending }
+
+-- with a field of so many bits alone in its chunk
+abbrev pub aloneAt : State → ℕ → List Bit → flow.State
+aloneAt t width bs = record { shift = width; chunk = bs; chunkNr = t .nr; rawNr = t .raws; pending = t .pending }
 
 abbrev pub newState : State
-newState = record { shift = 0; nr = 0; pending = false }
+newState = record { shift = 0; nr = 0; raws = 0; pending = false }
 
 abbrev pub noFields : Chunk
 noFields = record { shifts = replicate 64 0; widths = replicate 64 0; len = 0 }
@@ -38,7 +42,7 @@ pushed c shift width =
     record { shifts = set (c .shifts) (c .len) shift; widths = set (c .widths) (c .len) width; len = c .len + 1 }
 
 abbrev pub openedState : State → ℕ → State
-openedState t width = record { shift = t .shift + width; nr = t .nr; pending = t .pending }
+openedState t width = record { shift = t .shift + width; nr = t .nr; raws = t .raws; pending = t .pending }
 
 -- a field that passes and writes nothing
 abbrev pub passedStep : ℕ → State → Step
@@ -60,14 +64,25 @@ abbrev pub nextBy : Bool → ℕ → ℕ
 nextBy true nr = nr
 nextBy false nr = nr + 1
 
+-- the state behind it
+abbrev pub closedAfter : flow.State → flow.State
+closedAfter s =
+    record {
+      shift = 0;
+      chunk = [];
+      chunkNr = nextNr (s .chunkNr) (s .chunk);
+      rawNr = rawsBehind (s .rawNr) (s .chunk);
+      pending = true;
+    }
+
 -- 12: it has more than 64 bits
-unfoldable pub closeAdvance : EndiannessValue → flow.State → ℕ → Advance
-closeAdvance order s later = elim (ltb 64 (s .shift)) [
+unfoldable pub closeAdvance : Options → flow.State → ℕ → Advance
+closeAdvance o s later = elim (ltb 64 (s .shift)) [
   | true ↦ record { verdict = Verdict.Refuse Refusal.ScalarTooWide; lines = []; after = s }
   | false ↦ record {
     verdict = Verdict.Pass;
-    lines = checkText (s .pending) ((s .shift + later) / 8) ++ chunkText order (s .chunkNr) (s .chunk);
-    after = record { shift = 0; chunk = []; chunkNr = nextNr (s .chunkNr) (s .chunk); pending = true };
+    lines = checkText (s .pending) ((s .shift + later) / 8) ++ chunkText o (chunkAt s (s .chunk));
+    after = closedAfter s;
   }
 ]
 
@@ -78,12 +93,13 @@ pub record Closing (t : State) (c : Chunk) (later : ℕ) : Type 0 where
   pub sum : t .shift ≡ sumTo (c .widths) (c .len)
   pub fits : t .shift + later < 2 ^ 64
   pub few : t .nr + 1 < 2 ^ 64
+  pub tested : t .raws + 64 < 2 ^ 64
 
 abbrev pub wideStep : State → ℕ → Step
 wideStep t at = record { verdict = Verdict.Refuse Refusal.ScalarTooWide; at = at; state = t }
 
-abbrev pub closedStep : ℕ → ℕ → Step
-closedStep at nr = record { verdict = Verdict.Pass; at = at; state = record { shift = 0; nr = nr; pending = true } }
+abbrev pub closedStep : ℕ → ℕ → ℕ → Step
+closedStep at nr raws = record { verdict = Verdict.Pass; at = at; state = record { shift = 0; nr = nr; raws = raws; pending = true } }
 
 -- ---- what a step comes to
 

@@ -18,12 +18,14 @@ ghost use Rattle.stream.specs.Stream.{checkText};
 ghost use Rattle.text.specs.Put.{Put};
 ghost use Rattle.chunk_lines.specs.Bits.{aloneOf, bitsOf};
 ghost use Rattle.chunks.specs.Steps.{noFields, newState, pushed, openedState, passedStep, nextBy, wideStep, closedStep, codeVerdict};
-ghost use Rattle.chunks.specs.Steps.{seen, closeAdvance, Closing, Stepped};
+ghost use Rattle.chunks.specs.Steps.{seen, aloneAt, closeAdvance, Closing, Stepped};
 
-// What the parser keeps beside its open chunk: the chunk's bits, the number of the next chunk that has one, and whether the present run has its check.
+// What the parser keeps beside its open chunk: the chunk's bits, the number of the next chunk that has one, how many tested enums the closed chunks have,
+// and whether the present run has its check.
 pub struct State {
     pub shift: u64,
     pub nr: u64,
+    pub raws: u64,
     pub pending: bool,
 }
 
@@ -52,6 +54,7 @@ pub fn new(at: usize) -> Step
     let state = State {
         shift: 0,
         nr: 0,
+        raws: 0,
         pending: false,
     };
     Step {
@@ -113,6 +116,7 @@ pub fn opened(t: State, width: u64) -> State
     State {
         shift: t.shift + width,
         nr: t.nr,
+        raws: t.raws,
         pending: t.pending,
     }
 }
@@ -158,12 +162,13 @@ fn too_wide(t: State, at: usize) -> Step
 }
 
 // Its lines end at a place; the run has its check.
-fn closed(at: usize, nr: u64) -> Step
-    ensures { λ r. ⌜ r ≡ closedStep at nr ⌝ }
+fn closed(at: usize, nr: u64, raws: u64) -> Step
+    ensures { λ r. ⌜ r ≡ closedStep at nr raws ⌝ }
 {
     let state = State {
         shift: 0,
         nr,
+        raws,
         pending: true,
     };
     Step {
@@ -185,16 +190,16 @@ pub fn close_alone<'a>(
     later: u64,
     kind: KindAt,
 ) -> Step
-    requires { ⌜ width + later < 2 ^ 64 ⌝ }
+    requires { ⌜ (width + later < 2 ^ 64) × (t .raws + 1 < 2 ^ 64) ⌝ }
     ensures { λ r. let bs : List Bit = aloneOf (options .arrays) (now (rec .entry)) (text "payload") width kind in
-        ⌜ Stepped t (closeAdvance (options .endianness) (record { shift = width; chunk = bs; chunkNr = t .nr; pending = t .pending }) later) []
-        (now (out .entry)) at r (now (out .exit)) ⌝ }
+        ⌜ Stepped t (closeAdvance options (aloneAt t width bs) later) [] (now (out .entry)) at r (now (out .exit)) ⌝ }
 {
     match text::get_cxx_scalar_type(width) {
         ScalarType::Bits(_) => {
             let p = check_size(out, at, t.pending, (width + later) / 8);
-            let q = chunk_lines::put_alone(rec, b"payload", out, p, options, width, kind);
-            closed(q, t.nr)
+            let raws = t.raws;
+            let q = chunk_lines::put_alone(rec, b"payload", out, p, options, raws, width, kind);
+            closed(q, t.nr, chunk_lines::next_raw(raws, kind))
         }
         ScalarType::TooWide => too_wide(t, at),
     }
@@ -213,23 +218,25 @@ pub fn close<'a>(
 ) -> Step
     requires { ⌜ Closing t c later ⌝ }
     ensures { λ r. let bs : List Bit = bitsOf (options .arrays) (now (rec .entry)) (text "payload") c kinds (c .len) in
-        ⌜ Stepped t (closeAdvance (options .endianness) (seen t bs) later) [] (now (out .entry)) at r (now (out .exit)) ⌝ }
+        ⌜ Stepped t (closeAdvance options (seen t bs) later) [] (now (out .entry)) at r (now (out .exit)) ⌝ }
 {
     let bits = t.shift;
     match text::get_cxx_scalar_type(bits) {
         ScalarType::Bits(backing) => {
             let nr = t.nr;
+            let raws = t.raws;
             let n = c.len;
             let skip = chunk_lines::should_skip_value(kinds, n);
             let whole = WholeChunk {
                 nr,
+                raws,
                 bits,
                 backing,
                 skip,
             };
             let p = check_size(out, at, t.pending, (bits + later) / 8);
             let q = chunk_lines::put_chunk(rec, b"payload", out, p, options, c, kinds, whole);
-            closed(q, next_nr(skip, nr))
+            closed(q.at, next_nr(skip, nr), q.raws)
         }
         ScalarType::TooWide => too_wide(t, at),
     }

@@ -392,12 +392,121 @@ single =
     ∷ refuses (lamp (text "trailing=padded\n")) 2
     ∷ refuses (trailing "trailing=padded\ntrailing=padded\n" []) 2
     ∷ refuses (trailing "trailing=plain\ntrailing=padded\n" []) 2
-    ∷ refuses (trailing "raw=plain\n" []) 2
+    ∷ refuses (trailing "products=plain\n" []) 2
     ∷ []
 
 trails-right : all (all begins) (single ∷ trails) ≡ true
 unfolding everything lite packet struct lamp plain scalar payload refuses agrees array begins upTo trailing starts counts opens never padding trails single
 trails-right = refl
+
+-- ---- the head's line `raw` (document 02, Card 7)
+
+-- these lines of the head, a closed enum E, an open one F, a complete one G, and Lamp with these fields
+raws : String → Text → Text
+raws lines fields =
+    lite
+    ++ (text lines
+    ++ (enum "8" "open=0\ncomplete=0"
+    ++ (text "decl=enum\nname=F\nwidth=8\nopen=1\ncomplete=0\ndecl=enum\nname=G\nwidth=8\nopen=0\ncomplete=1\n"
+    ++ (text "decl=enum\nname=H\nwidth=4\nopen=0\ncomplete=0\n" ++ (packet "Lamp" ++ fields)))))
+
+typed : String → String → Text
+typed id type = text "field=typedef\nid=" ++ (text id ++ (text "\ntype=" ++ (text type ++ text "\nif=-\n")))
+
+-- the lines of a tested enum of 8 bits alone in its chunk, with these digits
+tested : String → String → String → Text
+tested id type digits =
+    text "auto raw_value" ++ (text digits ++ (text " = span.read_le<uint8_t, 1>();\nif (!IsValid"
+    ++ (text type ++ (text "(raw_value" ++ (text digits ++ (text ")) {\n   return false;\n}\n"
+    ++ (text id ++ (text "_ = " ++ (text type ++ (text "(raw_value" ++ (text digits ++ text ");\n")))))))))))
+
+room : String → Text
+room n = text "if (span.size() < " ++ (text n ++ text ") {\n    return false;\n}\n")
+
+-- with the lines absent and plain, and with numbered
+lines : Text → Text → Text → List Case
+lines fields plainly numbered =
+    starts (raws "" fields) plainly
+    ∷ starts (raws "raw=plain\n" fields) plainly
+    ∷ starts (raws "trailing=padded\nraw=plain\n" fields) plainly
+    ∷ starts (raws "raw=numbered\n" fields) numbered
+    ∷ starts (raws "trailing=plain\nraw=numbered\n" fields) numbered
+    ∷ []
+
+-- a closed enum of 4 bits out of `chunk0`
+nibble : String → String → String → Text
+nibble id shift digits =
+    text "auto raw_value" ++ (text digits ++ (text " = (chunk0 >> " ++ (text shift ++ (text ") & 0xf;\nif (!IsValidH(raw_value"
+    ++ (text digits ++ (text ")) {\n   return false;\n}\n" ++ (text id ++ (text "_ = H(raw_value" ++ (text digits ++ text ");\n")))))))))
+
+numbers : List (List Case)
+numbers =
+    -- one alone has a number too
+    lines (typed "a" "E") (room "1" ++ tested "a" "E" "") (room "1" ++ tested "a" "E" "0")
+    -- two chunks of one run
+    ∷ lines (typed "a" "E" ++ typed "b" "E") (room "2" ++ (tested "a" "E" "" ++ tested "b" "E" ""))
+    (room "2" ++ (tested "a" "E" "0" ++ tested "b" "E" "1"))
+    -- two fields of one chunk, and one behind it
+    ∷ lines (typed "a" "H" ++ (typed "b" "H" ++ typed "c" "E"))
+    (room "2" ++ (text "uint8_t chunk0 = span.read_le<uint8_t, 1>();\n" ++ (nibble "a" "0" "" ++ (nibble "b" "4" "" ++ tested "c" "E" ""))))
+    (room "2" ++ (text "uint8_t chunk0 = span.read_le<uint8_t, 1>();\n" ++ (nibble "a" "0" "0" ++ (nibble "b" "4" "1" ++ tested "c" "E" "2"))))
+    -- open and complete enums, scalars and fixed fields take none
+    ∷ lines (typed "o" "F" ++ (typed "g" "G" ++ (scalar "s" "8" ++ (plain "fixedenum\ntype=E\ntag=T" ++ typed "a" "E"))))
+    (room "5"
+    ++ (text "o_ = F(span.read_le<uint8_t, 1>());\ng_ = G(span.read_le<uint8_t, 1>());\ns_ = span.read_le<uint8_t, 1>();\n"
+    ++ (text "if (E(span.read_le<uint8_t, 1>()) != E::T) {\n    return false;\n}\n" ++ tested "a" "E" "")))
+    (room "5"
+    ++ (text "o_ = F(span.read_le<uint8_t, 1>());\ng_ = G(span.read_le<uint8_t, 1>());\ns_ = span.read_le<uint8_t, 1>();\n"
+    ++ (text "if (E(span.read_le<uint8_t, 1>()) != E::T) {\n    return false;\n}\n" ++ tested "a" "E" "0")))
+    -- a flush between them; the optional enum keeps its name and takes no number
+    ∷ lines (scalar "c" "8" ++ (typed "a" "E" ++ (text "field=typedef\nid=p\ntype=E\nif=c\nis=1\n" ++ typed "b" "E")))
+    (room "2"
+    ++ (text "uint8_t c = span.read_le<uint8_t, 1>();\n"
+    ++ (tested "a" "E" ""
+    ++ (text "if (c == 1) {\n    if (span.size() < 1) {\n        return false;\n    }\n    auto raw_value = span.read_le<uint8_t, 1>();\n"
+    ++ (text "    if (!IsValidE(raw_value)) {\n       return false;\n    }\n    p_ = E(raw_value);\n}\n" ++ (room "1" ++ tested "b" "E" ""))))))
+    (room "2"
+    ++ (text "uint8_t c = span.read_le<uint8_t, 1>();\n"
+    ++ (tested "a" "E" "0"
+    ++ (text "if (c == 1) {\n    if (span.size() < 1) {\n        return false;\n    }\n    auto raw_value = span.read_le<uint8_t, 1>();\n"
+    ++ (text "    if (!IsValidE(raw_value)) {\n       return false;\n    }\n    p_ = E(raw_value);\n}\n" ++ (room "1" ++ tested "b" "E" "1"))))))
+    -- names of the record that read like it are as they were
+    ∷ lines (plain "flag\nid=raw_value0" ++ (plain "reserved\nwidth=7" ++ typed "raw_value1" "E"))
+    (room "2"
+    ++ (text "uint8_t chunk0 = span.read_le<uint8_t, 1>();\nuint8_t raw_value0 = (chunk0 >> 0) & 0x1;\n" ++ tested "raw_value1" "E" ""))
+    (room "2"
+    ++ (text "uint8_t chunk0 = span.read_le<uint8_t, 1>();\nuint8_t raw_value0 = (chunk0 >> 0) & 0x1;\n" ++ tested "raw_value1" "E" "0"))
+    ∷ []
+
+-- an array of a closed enum keeps the old name and takes no number
+inArrays : List Case
+inArrays =
+    starts
+    (full
+    ++ (text "raw=numbered\n"
+    ++ (enum "8" "open=0\ncomplete=0" ++ (packet "Lamp" ++ (typed "a" "E" ++ (array "-" "E" "2" ++ typed "b" "E"))))))
+    (room "1"
+    ++ (text "auto raw_value0 = span.read_le<uint8_t, 1>();\nif (!IsValidE(raw_value0)) {\n   return false;\n}\noutput->a_ = E(raw_value0);\n"
+    ++ (room "2"
+    ++ (text "for (size_t n = 0; n < 2; n++) {\n    auto raw_value = span.read_le<uint8_t, 1>();\n    if (!IsValidE(raw_value)) {\n"
+    ++ (text "        return false;\n    }\n    output->v_[n] = E(raw_value);\n}\n"
+    ++ (room "1" ++ text "auto raw_value1 = span.read_le<uint8_t, 1>();\nif (!IsValidE(raw_value1)) {\n"))))))
+    -- 2: another word, another place, twice, before `trailing`
+    ∷ refuses (raws "raw=Numbered\n" []) 2
+    ∷ refuses (raws "raw=-\n" []) 2
+    ∷ refuses (raws "raw=\n" []) 2
+    ∷ refuses (raws "raw=numbered" []) 2
+    ∷ refuses (raws "raw=numbered\ntrailing=plain\n" []) 2
+    ∷ refuses (raws "raw=plain\nraw=numbered\n" []) 2
+    ∷ refuses (raws "raw=numbered\nraw=numbered\n" []) 2
+    ∷ refuses (text "endian=little\ntarget=Lamp\nraw=numbered\narrays=lite\n" ++ packet "Lamp") 2
+    ∷ refuses (text "raw=numbered\n" ++ (lite ++ packet "Lamp")) 2
+    ∷ refuses (lamp (text "raw=numbered\n")) 2
+    ∷ []
+
+numbers-right : all (all begins) (inArrays ∷ numbers) ≡ true
+unfolding everything lite full packet struct lamp plain scalar refuses agrees enum array begins starts raws typed tested room lines nibble numbers inArrays
+numbers-right = refl
 
 -- ---- 15, the word and the buffer: P3 has 81 bytes
 

@@ -9,6 +9,8 @@ use Rattle.definitions.specs.Bytes.{Text, text, pick, all, decimal}
 use Rattle.definitions.specs.Lines.{Expr, Src, Test, Before, Dest, Out, Line, Stmt}
 use Rattle.definitions.specs.declared.EndiannessValue.{EndiannessValue}
 use Rattle.definitions.specs.declared.Arrays.{Arrays}
+use Rattle.definitions.specs.declared.Raw.{Raw}
+use Rattle.definitions.specs.declared.Options.{Options}
 use Rattle.definitions.specs.declared.Modifier.{Modifier}
 use Rattle.definitions.specs.declared.ElementSize.{ElementSize}
 use Rattle.definitions.specs.declared.ArraySize.{ArraySize}
@@ -57,6 +59,8 @@ pub record Bit : Type 0 where
 pub record Chunk : Type 0 where
   -- the value of `chunk_nr` when the chunk was closed
   pub nr : ℕ
+  -- how many tested enums stand in the target's chunks before it (document 02, Card 7)
+  pub rawNr : ℕ
   pub fields : List Bit
 
 abbrev pub widths : List Bit → ℕ
@@ -75,17 +79,37 @@ readOf s order w = Src.read s order (getCxxScalarType w) (w / 8)
 abbrev pub mask : ℕ → ℕ
 mask w = 2 ^ w - 1
 
--- the lines of a field whose bits are v
+-- the variable that a tested enum, the k-th of the target's from 0 on, is held in (document 02, Card 7)
+abbrev pub rawName : Raw → ℕ → Text
+rawName Raw.Plain k = raw
+rawName Raw.Numbered k = raw ++ decimal k
+
+-- how many tested enums there are behind a field, where k are before it
+abbrev pub nextRaw : ℕ → Kind → ℕ
+nextRaw k (Kind.number x) = k
+nextRaw k (Kind.condition x) = k
+nextRaw k (Kind.openEnum x type) = k
+nextRaw k (Kind.closedEnum x type) = k + 1
+nextRaw k (Kind.fixedScalar n) = k
+nextRaw k (Kind.fixedEnum type tag) = k
+nextRaw k Kind.reserved = k
+
+-- and behind the fields of a chunk
+abbrev pub rawsBehind : ℕ → List Bit → ℕ
+rawsBehind k [] = k
+rawsBehind k (b ∷ bs) = rawsBehind (nextRaw k (b .kind)) bs
+
+-- the lines of a field whose bits are v; a tested enum is held in r
 -- (a closed enum's `return false;` stands three spaces deep, as in cxx.rs)
-abbrev pub kindLines : Src → Kind → List Line
-kindLines v (Kind.number x) = Line.set Before.old x v ∷ []
-kindLines v (Kind.condition x) = Line.set Before.condition x v ∷ []
-kindLines v (Kind.openEnum x type) = Line.setCast x type v ∷ []
-kindLines v (Kind.closedEnum x type) =
-    Line.set Before.auto raw v ∷ Line.check 3 (Test.notValid type raw) ∷ Line.setCast x type (Src.held raw) ∷ []
-kindLines v (Kind.fixedScalar n) = Line.check 4 (Test.notFixed v n) ∷ []
-kindLines v (Kind.fixedEnum type tag) = Line.check 4 (Test.notTag type v tag) ∷ []
-kindLines v Kind.reserved = []
+abbrev pub kindLines : Text → Src → Kind → List Line
+kindLines r v (Kind.number x) = Line.set Before.old x v ∷ []
+kindLines r v (Kind.condition x) = Line.set Before.condition x v ∷ []
+kindLines r v (Kind.openEnum x type) = Line.setCast x type v ∷ []
+kindLines r v (Kind.closedEnum x type) =
+    Line.set Before.auto r v ∷ Line.check 3 (Test.notValid type r) ∷ Line.setCast x type (Src.held r) ∷ []
+kindLines r v (Kind.fixedScalar n) = Line.check 4 (Test.notFixed v n) ∷ []
+kindLines r v (Kind.fixedEnum type tag) = Line.check 4 (Test.notTag type v tag) ∷ []
+kindLines r v Kind.reserved = []
 
 abbrev pub isReserved : Kind → Bool
 isReserved (Kind.number x) = false
@@ -103,24 +127,28 @@ shouldSkipValue bs = all (λ (b : Bit). isReserved (b .kind)) bs
 abbrev pub chunkName : ℕ → Text
 chunkName nr = text "chunk" ++ decimal nr
 
--- the fields of a chunk that is held in a variable
-abbrev pub bitsLines : Text → List Bit → List Line
-bitsLines x [] = []
-bitsLines x (b ∷ bs) = kindLines (Src.bits x (b .shift) (mask (b .width))) (b .kind) ++ bitsLines x bs
+-- the fields of a chunk that is held in a variable, behind k tested enums
+abbrev pub bitsLines : Raw → Text → ℕ → List Bit → List Line
+bitsLines m x k [] = []
+bitsLines m x k (b ∷ bs) =
+    kindLines (rawName m k) (Src.bits x (b .shift) (mask (b .width))) (b .kind) ++ bitsLines m x (nextRaw k (b .kind)) bs
 
 -- a chunk of one field reads into it, a larger one into `chunk0`, `chunk1` and so on
-abbrev pub readLines : EndiannessValue → ℕ → ℕ → List Bit → List Line
-readLines order nr w [] = []
-readLines order nr w (b ∷ []) = kindLines (readOf span order w) (b .kind)
-readLines order nr w (b ∷ d ∷ bs) =
-    Line.set (Before.chunk (getCxxScalarType w)) (chunkName nr) (readOf span order w) ∷ bitsLines (chunkName nr) (b ∷ d ∷ bs)
+abbrev pub readLines : Options → ℕ → ℕ → ℕ → List Bit → List Line
+readLines o nr k w [] = []
+readLines o nr k w (b ∷ []) = kindLines (rawName (o .raw) k) (readOf span (o .endianness) w) (b .kind)
+readLines o nr k w (b ∷ d ∷ bs) =
+    Line.set (Before.chunk (getCxxScalarType w)) (chunkName nr) (readOf span (o .endianness) w)
+    ∷ bitsLines (o .raw) (chunkName nr) k (b ∷ d ∷ bs)
 
-abbrev pub chunkLines : EndiannessValue → ℕ → List Bit → List Line
-chunkLines order nr bs = pick (shouldSkipValue bs) (Line.reserved span (widths bs / 8) ∷ []) (readLines order nr (widths bs) bs)
+abbrev pub chunkLines : Options → Chunk → List Line
+chunkLines o c =
+    pick (shouldSkipValue (c .fields)) (Line.reserved span (widths (c .fields) / 8) ∷ [])
+    (readLines o (c .nr) (c .rawNr) (widths (c .fields)) (c .fields))
 
-abbrev pub chunksLines : EndiannessValue → List Chunk → List Line
-chunksLines order [] = []
-chunksLines order (c ∷ cs) = chunkLines order (c .nr) (c .fields) ++ chunksLines order cs
+abbrev pub chunksLines : Options → List Chunk → List Line
+chunksLines o [] = []
+chunksLines o (c ∷ cs) = chunkLines o c ++ chunksLines o cs
 
 -- ---- arrays: the 24 shapes
 
@@ -335,8 +363,8 @@ fieldLines m w a l = modifierLines m w (sizeName a) (arrayLines a l)
 -- ---- blocks
 
 pub data Block : Type 0 where
-  -- byte order, the checked number, and the chunks behind the check
-  checked : EndiannessValue → ℕ → List Chunk → Block
+  -- the head's choices (byte order, and what a tested enum is held in), the checked number, and the chunks behind the check
+  checked : Options → ℕ → List Chunk → Block
   -- a payload by its size: target, the size variable, and its modifier
   sizedPayload : Text → Text → Modifier → Block
   -- a payload up to the trailing bytes, and one to the end
@@ -381,7 +409,7 @@ abbrev pub whenIs : Text → ℕ → List Line → Stmt
 whenIs c v ls = Stmt.when (Test.equal (Expr.var c) (Expr.lit v)) ls
 
 abbrev pub blockLines : Block → List Stmt → List Stmt
-blockLines (Block.checked order n cs) l = body (checkSize (Expr.lit n) ∷ chunksLines order cs) l
+blockLines (Block.checked o n cs) l = body (checkSize (Expr.lit n) ∷ chunksLines o cs) l
 blockLines (Block.sizedPayload x s m) l =
     body
     (roomFor (actualSize m s)

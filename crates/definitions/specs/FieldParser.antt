@@ -6,7 +6,7 @@ use Prim.Native.Nat.{ℕ, _+_, _/_, _%_}
 use lib.Dec.{ltb, eqb}
 use Rattle.definitions.specs.Bytes.{Text, text, pick, any, part}
 use Rattle.definitions.specs.Sizes.{Row, Annotated, enumOf, isBitfield, isPayloadId, hasPayloadSize, reference, sameName, elementSize, arraySize, staticWidth, isArray, outerSize}
-use Rattle.definitions.specs.Blocks.{Kind, Bit, Chunk, shouldSkipValue, getCxxScalarType, Elem, Array, named, Block}
+use Rattle.definitions.specs.Blocks.{Kind, Bit, Chunk, rawsBehind, shouldSkipValue, getCxxScalarType, Elem, Array, named, Block}
 use Rattle.definitions.specs.declared.EnumOf.{EnumOf}
 use Rattle.definitions.specs.declared.Part.{Part}
 use Rattle.definitions.specs.declared.MaybePart.{MaybePart}
@@ -29,7 +29,8 @@ pub record Setting : Type 0 where
   pub source : Text
   -- `scope`, and what is looked up in `schema`: the rows of the declarations before the target
   pub scope : List Row
-  -- the head's choices: `endianness`; `extract_arrays`, and so `target_prefix`; what a padded array counts in a trailing size
+  -- the head's choices: `endianness`; `extract_arrays`, and so `target_prefix`; what a padded array counts in a trailing size; what a tested enum is
+  -- held in
   pub options : Options
   -- `decl.fields()`
   pub fields : List Field
@@ -39,6 +40,8 @@ pub record FieldParser : Type 0 where
   pub shift : ℕ
   pub chunk : List Bit
   pub chunkNr : ℕ
+  -- how many tested enums the chunks closed so far have: counted through the target (document 02, Card 7)
+  pub rawNr : ℕ
   pub uncheckedCode : List Chunk
   pub code : List Block
 
@@ -52,7 +55,7 @@ andThen (go p) f = f p
 andThen (stop why) f = stop why
 
 abbrev pub new : FieldParser
-new = record { offset = 0; shift = 0; chunk = []; chunkNr = 0; uncheckedCode = []; code = [] }
+new = record { offset = 0; shift = 0; chunk = []; chunkNr = 0; rawNr = 0; uncheckedCode = []; code = [] }
 
 abbrev pub append : FieldParser → Block → FieldParser
 append p b =
@@ -61,6 +64,7 @@ append p b =
       shift = p .shift;
       chunk = p .chunk;
       chunkNr = p .chunkNr;
+      rawNr = p .rawNr;
       uncheckedCode = p .uncheckedCode;
       code = p .code ++ (b ∷ []);
     }
@@ -73,8 +77,9 @@ flush c p =
       shift = p .shift;
       chunk = p .chunk;
       chunkNr = p .chunkNr;
+      rawNr = p .rawNr;
       uncheckedCode = [];
-      code = p .code ++ (Block.checked (c .options .endianness) (p .offset) (p .uncheckedCode) ∷ []);
+      code = p .code ++ (Block.checked (c .options) (p .offset) (p .uncheckedCode) ∷ []);
     }
 
 -- 10: lines are pending, and a chunk is open
@@ -148,6 +153,7 @@ openChunk p shift chunk =
       shift = shift;
       chunk = chunk;
       chunkNr = p .chunkNr;
+      rawNr = p .rawNr;
       uncheckedCode = p .uncheckedCode;
       code = p .code;
     }
@@ -160,7 +166,8 @@ closeChunk p shift chunk =
       shift = 0;
       chunk = [];
       chunkNr = nextNr (p .chunkNr) chunk;
-      uncheckedCode = p .uncheckedCode ++ (record { nr = p .chunkNr; fields = chunk } ∷ []);
+      rawNr = rawsBehind (p .rawNr) chunk;
+      uncheckedCode = p .uncheckedCode ++ (record { nr = p .chunkNr; rawNr = p .rawNr; fields = chunk } ∷ []);
       code = p .code;
     }
 

@@ -34,6 +34,9 @@ use Rattle.definitions.specs.declared.CondRead.{CondRead}
 use Rattle.definitions.specs.declared.FieldRead.{FieldRead}
 use Rattle.definitions.specs.declared.Trailing.{Trailing}
 use Rattle.definitions.specs.declared.TrailingRead.{TrailingRead}
+use Rattle.definitions.specs.declared.Raw.{Raw}
+use Rattle.definitions.specs.declared.RawRead.{RawRead}
+use Rattle.definitions.specs.declared.OptionalRead.{OptionalRead}
 use Rattle.definitions.specs.declared.HeadRead.{HeadRead}
 use Rattle.definitions.specs.declared.DeclRead.{DeclRead}
 
@@ -378,17 +381,33 @@ trailingAt s at =
     record { trailing = Trailing.Padded; next = p })
     λ p. record { trailing = Trailing.Plain; next = p }
 
+-- document 02, Card 7: the same
+unfoldable pub rawAt : Text → ℕ → RawRead
+rawAt s at =
+    onFound (keyAt s at (text "raw=plain\n"))
+    (onFound (keyAt s at (text "raw=numbered\n")) (record { raw = Raw.Plain; next = at }) λ p. record { raw = Raw.Numbered; next = p })
+    λ p. record { raw = Raw.Plain; next = p }
+
+abbrev pub behindTrailing : Trailing → RawRead → OptionalRead
+behindTrailing trailing w = record { trailing = trailing; raw = w .raw; next = w .next }
+
+-- the lines that may be absent, in their order
+unfoldable pub optionalAt : Text → ℕ → OptionalRead
+optionalAt s at = behindTrailing (trailingAt s at .trailing) (rawAt s (trailingAt s at .next))
+
 -- behind `arrays`
-abbrev pub headIs : EndiannessValue → Part → Arrays → TrailingRead → HeadRead
+abbrev pub headIs : EndiannessValue → Part → Arrays → OptionalRead → HeadRead
 headIs endianness target arrays t =
-    HeadRead.Is (record { options = record { endianness = endianness; arrays = arrays; trailing = t .trailing }; target = target }) (t .next)
+    HeadRead.Is
+    (record { options = record { endianness = endianness; arrays = arrays; trailing = t .trailing; raw = t .raw }; target = target })
+    (t .next)
 
 unfoldable pub headAt : Text → ℕ → HeadRead
 headAt s at =
     onEndian s at HeadRead.Wrong λ endianness p.
     onName (nameLine s p (text "target=")) HeadRead.Wrong λ target q.
     onArrays s q HeadRead.Wrong λ arrays r.
-    headIs endianness target arrays (trailingAt s r)
+    headIs endianness target arrays (optionalAt s r)
 
 abbrev pub declIs : ℕ → Part → MaybeSize → DeclDesc → ℕ → DeclRead
 declIs at id bits desc p = DeclRead.Is (record { key = at; id = id; bits = bits; desc = desc }) p

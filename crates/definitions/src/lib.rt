@@ -45,11 +45,19 @@ pub enum Trailing {
     Padded,
 }
 
+// What the variable of a tested enum bit field is called: plain as in cxx.rs, `raw_value`; numbered with its number among the target's behind it
+// (document 02, Card 7).
+pub enum Raw {
+    Plain,
+    Numbered,
+}
+
 // What the head chooses beside the target, handed on whole from the reader to the writer.
 pub struct Options {
     pub endianness: EndiannessValue,
     pub arrays: Arrays,
     pub trailing: Trailing,
+    pub raw: Raw,
 }
 
 pub struct Head {
@@ -284,9 +292,21 @@ pub enum FieldRead {
     Wrong,
 }
 
-// The optional line `trailing` of the head, and the place behind it.
+// An optional line of the head, and the place behind it: `trailing`, `raw`.
 pub struct TrailingRead {
     pub trailing: Trailing,
+    pub next: usize,
+}
+
+pub struct RawRead {
+    pub raw: Raw,
+    pub next: usize,
+}
+
+// All of them.
+pub struct OptionalRead {
+    pub trailing: Trailing,
+    pub raw: Raw,
     pub next: usize,
 }
 

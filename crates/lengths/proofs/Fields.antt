@@ -3,7 +3,7 @@
 use mathlib.Core.Bool.{Bool, true, false, _||_}
 use mathlib.Core.List.{List, [], _∷_}
 use mathlib.Core.Path.{_≡_, refl}
-use Prim.Native.Nat.{ℕ, _+_, _/_, _≤_}
+use Prim.Native.Nat.{ℕ, suc, _+_, _/_, _≤_}
 use native.Mathlib.Omega.{arith}
 use lib.Dec.{ltb, eqb}
 use lib.ListN.{length, length-append}
@@ -331,10 +331,10 @@ module _ (c : Setting) where
       by Cond.None g = other-fits shift a later (a .field .desc) (h .0 .0) (h .1)
       by (Cond.Some id value) g = optional-fits id value (a .field .desc) (a .paddedSize) g (h .0 .0)
 
-  parse-fits : (n : ℕ) (p : FieldParser) (a : Annotated) (later : List Annotated) → Plain (a .field) → Holds n p
-      → StepFits (n + (share most (a .field .desc) + paddedBytes (a .paddedSize))) (parse c p a later)
+  parse-fits : (n i : ℕ) (p : FieldParser) (a : Annotated) (later : List Annotated) → Plain (a .field) → Holds n (suc i) p
+      → StepFits (n + (share most (a .field .desc) + paddedBytes (a .paddedSize))) i (parse c p a later)
   unfolding parse isBit
-  parse-fits n p a later h g = by (isBit c (a .field)) (bit (a .field .cond))
+  parse-fits n i p a later h g = by (isBit c (a .field)) (bit (a .field .cond))
     where
       bit : (k : Cond) → elim k as (λ _. Bool) [ Cond.None ↦ isBitfield (c .source) (c .scope) (a .field .desc) | Cond.Some id value ↦ false ] ≡ true
           → bitField ≤ share most (a .field .desc)
@@ -342,39 +342,43 @@ module _ (c : Setting) where
       bit (Cond.Some id value) e = impossible (cc)
 
       by : (b : Bool) → (b ≡ true → bitField ≤ share most (a .field .desc))
-          → StepFits (n + (share most (a .field .desc) + paddedBytes (a .paddedSize))) (elim b [
+          → StepFits (n + (share most (a .field .desc) + paddedBytes (a .paddedSize))) i (elim b [
             | true ↦ parseBitField c p a
             | false ↦ andThen (checkCode c p) λ q. emitted q (parseUnchecked c (q .shift) a later)
           ])
-      by true w = step-wider (parseBitField c p a) (bit-fits c n p a (kind-short (a .field .desc) (h .0 .0)) g) (omega (arith, w refl))
+      by true w = step-wider i (parseBitField c p a) (bit-fits c n i p a (kind-short (a .field .desc) (h .0 .0)) g) (omega (arith, w refl))
       by false w =
-          then-fits n _ (checkCode c p) _ (check-fits c n p g)
-          (λ q k. emitted-fits n _ q (parseUnchecked c (q .shift) a later) k (unchecked-fits (q .shift) a later h))
+          then-fits n _ (suc i) i (checkCode c p) _ (check-fits c n (suc i) p g)
+          (λ q k. emitted-fits n _ i q (parseUnchecked c (q .shift) a later) k (unchecked-fits (q .shift) a later h))
 
-  all-fit : (n : ℕ) (p : FieldParser) (xs : List Field) → AllPlain xs → Holds n p
-      → StepFits (n + shares most xs) (parseAll c p (annotateFields (c .source) (c .scope) (c .fields) xs))
+  all-fit : (n : ℕ) (p : FieldParser) (xs : List Field) → AllPlain xs → Holds n (length xs) p
+      → StepFits (n + shares most xs) 0 (parseAll c p (annotateFields (c .source) (c .scope) (c .fields) xs))
   unfolding parseAll annotateFields shares
-  all-fit n p [] h g = more-room g (omega arith)
+  all-fit n p [] h g = more-room g (omega arith) (omega arith)
   all-fit n p (f ∷ later) h g =
       let a : Annotated = record { field = f; fieldSize = annotateField (c .source) (c .scope) (c .fields) f; paddedSize = paddedBy later } in
       let m : ℕ = n + (share most (f .desc) + paddedBytes (paddedBy later)) in
       let more : List Annotated = annotateFields (c .source) (c .scope) (c .fields) later in
-      step-wider (andThen (parse c p a more) λ q. parseAll c q more)
-      (then-fits m (m + shares most later) (parse c p a more) (λ q. parseAll c q more) (parse-fits n p a more (h .0) g) (λ q k. all-fit m q later (h .1) k))
+      step-wider 0 (andThen (parse c p a more) λ q. parseAll c q more)
+      (then-fits m (m + shares most later) (length later) 0 (parse c p a more) (λ q. parseAll c q more)
+      (parse-fits n (length later) p a more (h .0) g)
+      (λ q k. all-fit m q later (h .1) k))
       (omega arith)
 
   -- ---- the outcome
 
-  pub lower-fits : AllPlain (c .fields) → OutcomeFits (shares most (c .fields)) (lowerFields c (annotateFields (c .source) (c .scope) (c .fields) (c .fields)))
+  pub lower-fits : AllPlain (c .fields) → length (c .fields) ≤ 64
+      → OutcomeFits (shares most (c .fields)) (lowerFields c (annotateFields (c .source) (c .scope) (c .fields) (c .fields)))
   unfolding lowerFields
-  lower-fits h =
+  lower-fits h few =
       let n : ℕ = shares most (c .fields) in
       let xs : List Annotated = annotateFields (c .source) (c .scope) (c .fields) (c .fields) in
       by (andThen (parseAll c new xs) (done c))
-      (then-fits (0 + n) (0 + n) (parseAll c new xs) (done c)
-      (all-fit 0 new (c .fields) h (record { used = 0; code = tt; room = omega arith; pending = tt; opened = tt; width = omega arith }))
-      (λ q k. check-fits c (0 + n) q k))
+      (then-fits (0 + n) (0 + n) 0 0 (parseAll c new xs) (done c)
+      (all-fit 0 new (c .fields) h
+      (record { used = 0; code = tt; room = omega arith; pending = tt; opened = tt; width = omega arith; raws = omega (arith, few) }))
+      (λ q k. check-fits c (0 + n) 0 q k))
     where
-      by : (s : Step) → StepFits (0 + shares most (c .fields)) s → OutcomeFits (shares most (c .fields)) (codeOf s)
+      by : (s : Step) → StepFits (0 + shares most (c .fields)) 0 s → OutcomeFits (shares most (c .fields)) (codeOf s)
       by (go p) g = omega (arith, fit-length (g .used) (p .code) (g .code), g .room)
       by (stop why) g = g

@@ -93,15 +93,19 @@ module _ (s : Text) (h : Head) where
       → OutcomeFits mostBytes (lowerTarget s h (annotateDecl s rows d))
   target-fits rows d names few fine =
       outcome (lowerTarget s h (annotateDecl s rows d))
-      (lower-fits (settingOf s h (annotateDecl s rows d)) (plain (d .fields) names (neither (badDecl (d .decl .desc)) (any wrongField (d .fields)) fine .1)))
+      (lower-fits (settingOf s h (annotateDecl s rows d)) (plain (d .fields) names (neither (badDecl (d .decl .desc)) (any wrongField (d .fields)) fine .1))
+      at-most)
     where
+      at-most : length (d .fields) ≤ 64
+      at-most = ltb-false 64 (length (d .fields)) few
+
       plain : (fs : List Field) → FieldsAre (ShortName s) fs → any wrongField fs ≡ false → AllPlain (settingOf s h (annotateDecl s rows d)) fs
       plain [] n e = tt
       plain (f ∷ fs) n e = let k = neither (wrongField f) (any wrongField fs) e in ((n .0, k .0), plain fs (n .1) (k .1))
 
       outcome : (o : Outcome) → OutcomeFits (shares (mostOf (d .fields)) (d .fields)) o → OutcomeFits mostBytes o
       outcome (refused why) k = k
-      outcome (accepted bs) k = omega (arith, k, shares-fit (d .fields) (ltb-false 64 (length (d .fields)) few))
+      outcome (accepted bs) k = omega (arith, k, shares-fit (d .fields) at-most)
 
   lower-in-fits : (rows : List Row) (ds : List Declaration) → DeclarationsAre (ShortName s) ds → any many ds ≡ false → any wrong ds ≡ false
       → OutcomeFits mostBytes (lowerIn s h (annotateFrom s rows ds))

@@ -3,7 +3,7 @@
 use mathlib.Core.Bool.{Bool, true, false}
 use mathlib.Core.List.{List, [], _∷_, _++_}
 use mathlib.Core.Path.{_≡_, refl, sym, subst}
-use Prim.Native.Nat.{ℕ, _+_, _*_, _%_, _≤_, _<_}
+use Prim.Native.Nat.{ℕ, suc, _+_, _*_, _%_, _≤_, _<_}
 use native.Mathlib.Omega.{arith}
 use lib.Dec.{ltb, eqb}
 use lib.ListN.{length, length-append}
@@ -14,6 +14,7 @@ use Rattle.definitions.specs.Lines.{render}
 use Rattle.definitions.specs.Blocks.{Bit, Chunk, widths, Block, program}
 use Rattle.definitions.specs.FieldParser.{Setting, FieldParser, Step, go, stop, andThen, flushed, checkCode, kindOf, bitOf, openChunk, closeChunk, parseBitField, Emit, appends, silent, refuses, emitted, Outcome, refused, accepted}
 use Rattle.definitions.specs.declared.Refusal.{Refusal}
+use Rattle.definitions.proofs.Raws.{raws-most}
 use Rattle.lengths.specs.Shares.{bitField}
 use Rattle.lengths.proofs.Others.{Within}
 use Rattle.lengths.proofs.Runs.{KindShort, BitShort, AllShort, ChunkShort, ChunksShort, bitsIn, checked-short}
@@ -42,17 +43,19 @@ wider w h = record { before = λ l. omega (arith, w .before l, h) }
 abbrev pub Not15 : Refusal → Type 0
 Not15 why = number why ≡ 15 → ⊥
 
-pub record Holds (n : ℕ) (p : FieldParser) : Type 0 where
+-- within n bytes, with m fields to come
+pub record Holds (n m : ℕ) (p : FieldParser) : Type 0 where
   pub used : ℕ
   pub code : Fit used (p .code)
   pub room : used + bitField * (bitsIn (p .uncheckedCode) + length (p .chunk)) ≤ n
   pub pending : ChunksShort (p .uncheckedCode)
   pub opened : AllShort (p .shift) (p .chunk)
   pub width : widths (p .chunk) ≤ p .shift
+  pub raws : p .rawNr + length (p .chunk) + m ≤ 64
 
-abbrev pub StepFits : ℕ → Step → Type 0
-StepFits n (go p) = Holds n p
-StepFits n (stop why) = Not15 why
+abbrev pub StepFits : ℕ → ℕ → Step → Type 0
+StepFits n m (go p) = Holds n m p
+StepFits n m (stop why) = Not15 why
 
 abbrev pub OutcomeFits : ℕ → Outcome → Type 0
 OutcomeFits n (refused why) = Not15 why
@@ -63,45 +66,49 @@ EmitFits n (appends b) = Within n b
 EmitFits n silent = Unit {0}
 EmitFits n (refuses why) = Not15 why
 
-pub then-fits : (m n : ℕ) (s : Step) (f : FieldParser → Step) → StepFits m s → ((q : FieldParser) → Holds m q → StepFits n (f q)) → StepFits n (andThen s f)
-then-fits m n (go p) f h k = k p h
-then-fits m n (stop why) f h k = h
+pub then-fits : (m n i j : ℕ) (s : Step) (f : FieldParser → Step) → StepFits m i s → ((q : FieldParser) → Holds m i q → StepFits n j (f q))
+    → StepFits n j (andThen s f)
+then-fits m n i j (go p) f h k = k p h
+then-fits m n i j (stop why) f h k = h
 
-pub more-room : {m n : ℕ} {p : FieldParser} → Holds m p → m ≤ n → Holds n p
-more-room g h = record {
+-- more bytes, and no more fields to come
+pub more-room : {m n i j : ℕ} {p : FieldParser} → Holds m i p → m ≤ n → j ≤ i → Holds n j p
+more-room g h e = record {
   used = g .used;
   code = g .code;
   room = omega (arith, g .room, h);
   pending = g .pending;
   opened = g .opened;
   width = g .width;
+  raws = omega (arith, g .raws, e);
 }
 
-pub step-wider : {m n : ℕ} (s : Step) → StepFits m s → m ≤ n → StepFits n s
-step-wider (go p) g h = more-room g h
-step-wider (stop why) g h = g
+pub step-wider : {m n : ℕ} (i : ℕ) (s : Step) → StepFits m i s → m ≤ n → StepFits n i s
+step-wider i (go p) g h = more-room g h (omega arith)
+step-wider i (stop why) g h = g
 
-pub emitted-fits : (m n : ℕ) (p : FieldParser) (e : Emit) → Holds m p → EmitFits n e → StepFits (m + n) (emitted p e)
-emitted-fits m n p (appends b) g w = record {
+pub emitted-fits : (m n i : ℕ) (p : FieldParser) (e : Emit) → Holds m (suc i) p → EmitFits n e → StepFits (m + n) i (emitted p e)
+emitted-fits m n i p (appends b) g w = record {
   used = g .used + n;
   code = fit-snoc (g .used) n (p .code) b (g .code) w;
   room = omega (arith, g .room);
   pending = g .pending;
   opened = g .opened;
   width = g .width;
+  raws = omega (arith, g .raws);
 }
-emitted-fits m n p silent g w = more-room g (omega arith)
-emitted-fits m n p (refuses why) g w = w
+emitted-fits m n i p silent g w = more-room g (omega arith) (omega arith)
+emitted-fits m n i p (refuses why) g w = w
 
 -- a run that is flushed pays for its block
 some-bits : (d : Chunk) (ds : List Chunk) → ChunksShort (d ∷ ds) → 0 < bitsIn (d ∷ ds)
 some-bits d ds h = omega (arith, h .0 .some)
 
-pub check-fits : (c : Setting) (n : ℕ) (p : FieldParser) → Holds n p → StepFits n (checkCode c p)
+pub check-fits : (c : Setting) (n i : ℕ) (p : FieldParser) → Holds n i p → StepFits n i (checkCode c p)
 unfolding checkCode
-check-fits c n p g = by (p .uncheckedCode) refl (p .chunk)
+check-fits c n i p g = by (p .uncheckedCode) refl (p .chunk)
   where
-    by : (cs : List Chunk) → p .uncheckedCode ≡ cs → (bs : List Bit) → StepFits n (flushed c p cs bs)
+    by : (cs : List Chunk) → p .uncheckedCode ≡ cs → (bs : List Bit) → StepFits n i (flushed c p cs bs)
     by [] e bs = g
     by (d ∷ ds) e [] =
         let some : 0 < bitsIn (p .uncheckedCode) = subst (λ (cs : List Chunk). 0 < bitsIn cs) (sym e) (some-bits d ds (subst ChunksShort e (g .pending))) in
@@ -109,11 +116,12 @@ check-fits c n p g = by (p .uncheckedCode) refl (p .chunk)
           used = g .used + bitField * bitsIn (p .uncheckedCode);
           code =
               fit-snoc (g .used) (bitField * bitsIn (p .uncheckedCode)) (p .code) _ (g .code)
-              (checked-short (c .options .endianness) (p .offset) (p .uncheckedCode) (g .pending) some);
+              (checked-short (c .options) (p .offset) (p .uncheckedCode) (g .pending) some);
           room = omega (arith, g .room);
           pending = tt;
           opened = g .opened;
           width = g .width;
+          raws = g .raws;
         }
     by (d ∷ ds) e (b ∷ bs) = omega arith
 
@@ -140,10 +148,10 @@ bits-snoc : (cs : List Chunk) (c : Chunk) → bitsIn (cs ++ (c ∷ [])) ≡ bits
 bits-snoc [] c = omega arith
 bits-snoc (d ∷ cs) c = omega (arith, bits-snoc cs c)
 
-pub bit-fits : (c : Setting) (n : ℕ) (p : FieldParser) (a : Annotated) → KindShort (kindOf c (a .field .desc)) → Holds n p
-    → StepFits (n + bitField) (parseBitField c p a)
+pub bit-fits : (c : Setting) (n i : ℕ) (p : FieldParser) (a : Annotated) → KindShort (kindOf c (a .field .desc)) → Holds n (suc i) p
+    → StepFits (n + bitField) i (parseBitField c p a)
 unfolding parseBitField
-bit-fits c n p a k g = boundary (eqb (now % 8) 0)
+bit-fits c n i p a k g = boundary (eqb (now % 8) 0)
   where
     now : ℕ
     now = p .shift + staticWidth (a .fieldSize)
@@ -163,24 +171,29 @@ bit-fits c n p a k g = boundary (eqb (now % 8) 0)
     longer : length grown ≡ length (p .chunk) + 1
     longer = simp length-append
 
-    close : (b : Bool) → ltb 64 now ≡ b → StepFits (n + bitField) (elim b [ true ↦ stop Refusal.ScalarTooWide | false ↦ go (closeChunk p now grown) ])
+    closed : Chunk
+    closed = record { nr = p .chunkNr; rawNr = p .rawNr; fields = grown }
+
+    close : (b : Bool) → ltb 64 now ≡ b → StepFits (n + bitField) i (elim b [ true ↦ stop Refusal.ScalarTooWide | false ↦ go (closeChunk p now grown) ])
     close true e = omega arith
     close false e = record {
       used = g .used;
       code = g .code;
-      room = omega (arith, g .room, longer, bits-snoc (p .uncheckedCode) (record { nr = p .chunkNr; fields = grown }));
+      room = omega (arith, g .room, longer, bits-snoc (p .uncheckedCode) closed);
       pending =
-          chunks-snoc (p .uncheckedCode) (record { nr = p .chunkNr; fields = grown }) (g .pending)
+          chunks-snoc (p .uncheckedCode) closed (g .pending)
           (record {
             bits = short-more now 64 grown (ltb-false 64 now e) short;
             width = omega (arith, wide, ltb-false 64 now e);
             some = omega (arith, longer);
+            raws = omega (arith, longer, g .raws);
           });
       opened = tt;
       width = omega arith;
+      raws = omega (arith, raws-most (p .rawNr) grown, longer, g .raws);
     }
 
-    boundary : (b : Bool) → StepFits (n + bitField) (elim b [
+    boundary : (b : Bool) → StepFits (n + bitField) i (elim b [
       | true ↦ elim (ltb 64 now) [ true ↦ stop Refusal.ScalarTooWide | false ↦ go (closeChunk p now grown) ]
       | false ↦ go (openChunk p now grown)
     ])
@@ -192,4 +205,5 @@ bit-fits c n p a k g = boundary (eqb (now % 8) 0)
       pending = g .pending;
       opened = short;
       width = wide;
+      raws = omega (arith, longer, g .raws);
     }

@@ -24,7 +24,7 @@ plainField = 1024
 
 -- a bit field: its own lines, the read of its chunk and the check of its run
 abbrev pub ownLines : ℕ
-ownLines = 297
+ownLines = 303
 
 abbrev pub chunkRead : ℕ
 chunkRead = 110

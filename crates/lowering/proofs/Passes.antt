@@ -97,12 +97,12 @@ told-answers o d e {out} {left} {r} a = record {
 
 module _ (t : Tables) (i n : ℕ) (o : Options) where
   pub plan-answers : Fine t i n → {plan : List PlanAt} → Entries t i n o plan → {out left : Text} {r : ℕ}
-      → ((bits : Part → ℕ) → AnswersTold (tell (o .endianness) fresh (plansFrom o (t .source) bits plan 0 n)) out r left)
+      → ((bits : Part → ℕ) → AnswersTold (tell o fresh (plansFrom o (t .source) bits plan 0 n)) out r left)
       → Answers (lowerFields (settingAt t i n o) (restAt t i n 0)) out r left
   plan-answers fine {plan} entries a =
       told-answers (lowerFields (settingAt t i n o) (restAt t i n 0)) _
       (told (settingAt t i n o) (restAt t i n 0)
-      ∙ ap (λ (ps : List Planned). resultOf (tell (o .endianness) fresh ps)) (sym (is-plan fine entries .stands)))
+      ∙ ap (λ (ps : List Planned). resultOf (tell o fresh ps)) (sym (is-plan fine entries .stands)))
       (a _)
 
 -- a target without fields

@@ -32,7 +32,7 @@ fn write_plan(rec: &[u8], out: &mut [u8], options: Options, plan: [PlanAt; 64], 
     requires { ⌜ (n ≤ 64) × Sound plan n ⌝ }
     ensures { λ r. let s : Text = now (rec .entry) in
         ⌜ ((bits : Part → ℕ)
-        → AnswersTold (tell (options .endianness) fresh (plansFrom options s bits plan 0 n)) (now (out .entry)) r (now (out .exit))) ⌝ }
+        → AnswersTold (tell options fresh (plansFrom options s bits plan 0 n)) (now (out .entry)) r (now (out .exit))) ⌝ }
 {
     let mut none = [0u8; 0];
     let first = parser::lower_target(rec, &mut none, 0, options, plan, n);

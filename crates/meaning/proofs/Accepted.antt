@@ -137,7 +137,7 @@ flushed-good c p (d ∷ ds) [] g =
       shift-is = g .shift-is;
       offset-is = refl;
       blocks =
-          blocks-snoc (p .code) (Block.checked (c .options .endianness) (p .offset) (p .uncheckedCode)) (g .blocks)
+          blocks-snoc (p .code) (Block.checked (c .options) (p .offset) (p .uncheckedCode)) (g .blocks)
           (record { number = g .offset-is; chunks = g .pending });
       shifts = g .shifts;
       spares = g .spares;
@@ -163,18 +163,21 @@ spares-snoc x (d ∷ bs) b h k = (h .0, spares-snoc x bs b (h .1) k)
 
 module _ (p : FieldParser) (shift : ℕ) (chunk : List Bit) (g : Good p) (w : shift ≡ widths chunk) (sh : Shifted 0 chunk)
     (sp : (nr : ℕ) → SparesAll (chunkName nr) chunk) where
+  abbrev closed : Chunk
+  closed = record { nr = p .chunkNr; rawNr = p .rawNr; fields = chunk }
+
   push-closed : eqb (shift % 8) 0 ≡ true → (b : Bool) → ltb 64 shift ≡ b
       → GoodStep (elim b [ true ↦ stop Refusal.ScalarTooWide | false ↦ go (closeChunk p shift chunk) ])
   push-closed e true f = tt
   push-closed e false f =
       record {
         shift-is = refl;
-        offset-is = omega (arith, offsets-snoc (p .uncheckedCode) (record { nr = p .chunkNr; fields = chunk }), g .offset-is, ap (λ (n : ℕ). n / 8) w);
+        offset-is = omega (arith, offsets-snoc (p .uncheckedCode) closed, g .offset-is, ap (λ (n : ℕ). n / 8) w);
         blocks = g .blocks;
         shifts = tt;
         spares = λ nr. tt;
         pending =
-            chunks-snoc (p .uncheckedCode) (record { nr = p .chunkNr; fields = chunk }) (g .pending)
+            chunks-snoc (p .uncheckedCode) closed (g .pending)
             (record {
               whole = omega (arith, w, eqb-true (shift % 8) 0 e);
               small = omega (arith, w, ltb-false 64 shift f);
@@ -208,7 +211,7 @@ named-free m id end nr =
 enum-spares : (c : Setting) (id type : Part) (e : EnumOf) (nr : ℕ) → Spares (chunkName nr) (enumKind (member c id) (written c type) e)
 enum-spares c id type (EnumOf.Enum w o f) nr =
     spares-pick (chunkName nr) (o || f) (Kind.openEnum (member c id) (written c type)) (Kind.closedEnum (member c id) (written c type))
-    (member-free c id nr) (member-free c id nr, raw-free nr)
+    (member-free c id nr) (member-free c id nr, λ m k. raw-free m k nr)
 enum-spares c id type EnumOf.None nr = member-free c id nr
 
 kind-spares : (c : Setting) (d : FieldDesc) → DescFree (c .source) d → (nr : ℕ) → Spares (chunkName nr) (kindOf c d)

@@ -56,7 +56,7 @@ fits o c ok os h e =
 pub chunk-fits : (s : Text) (bs : List Block) → answer s ≡ accepted bs → (r : CheckedRun bs)
     → (front : List Chunk) (chunk : Chunk) (back : List Chunk) → r .chunks ≡ front ++ (chunk ∷ back)
     → (os : List ℕ) → Octets os → length os ≡ widths (chunk .fields) / 8
-    → (widths (chunk .fields) ≤ 64) × (valueOf (r .order) os < 2 ^ getCxxScalarType (widths (chunk .fields)))
+    → (widths (chunk .fields) ≤ 64) × (valueOf (r .options .endianness) os < 2 ^ getCxxScalarType (widths (chunk .fields)))
 chunk-fits s bs e r front chunk back are os h k =
     let ok : ChunkOk chunk = chunk-at front chunk back (subst ChunksOk are (checked-ok s bs e r .chunks)) in
-    (ok .small, fits (r .order) chunk ok os h k)
+    (ok .small, fits (r .options .endianness) chunk ok os h k)

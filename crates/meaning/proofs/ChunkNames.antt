@@ -12,8 +12,9 @@ use lib.Seq.{drop-drop, take-at}
 use borrow.Author.Tests.{eqb-true, ltb-true, le-leb, lt-ltb, ne-eqb}
 use Rattle.definitions.specs.Bytes.{Text, text, any, part, isDigit, isWord, digit, digitsIn, decimal}
 use Rattle.definitions.specs.Record.{keyOf, keyAt, partOf, wordOf, nameOf, isFound, digitsLine, someDigits, digitsBehind, isForbidden, nameAt, Declaration, RecordRead, readRecord}
-use Rattle.definitions.specs.Blocks.{raw, chunkName}
+use Rattle.definitions.specs.Blocks.{chunkName, rawName}
 use Rattle.definitions.specs.declared.Part.{Part}
+use Rattle.definitions.specs.declared.Raw.{Raw}
 use Rattle.definitions.specs.declared.FieldDesc.{FieldDesc}
 use Rattle.definitions.specs.declared.Field.{Field}
 use Rattle.definitions.specs.declared.Found.{Found}
@@ -94,8 +95,10 @@ free-end a b h nr =
 pub free-ends : (a c : Text) (b : ℕ) → 57 < b → Free (a ++ (c ++ (b ∷ [])))
 free-ends a c b h nr = subst (λ (t : Text). Apart t (chunkName nr)) (append-assoc a c (b ∷ [])) (free-end (a ++ c) b h nr)
 
-pub raw-free : Free raw
-raw-free = free-end (text "raw_valu") 101 (omega arith)
+-- another first letter
+pub raw-free : (m : Raw) (k : ℕ) → Free (rawName m k)
+raw-free Raw.Plain k nr = refl
+raw-free Raw.Numbered k nr = refl
 
 -- ---- a name that was read
 

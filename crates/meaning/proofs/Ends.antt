@@ -10,7 +10,7 @@ use lib.Seq.{drop-drop, drop-length}
 use Rattle.definitions.specs.Bytes.{Text, pick, same}
 use Rattle.definitions.specs.Lines.{Stmt}
 use Rattle.definitions.specs.Blocks.{span, Chunk, chunksLines, Block, blockLines, program}
-use Rattle.definitions.specs.declared.EndiannessValue.{EndiannessValue}
+use Rattle.definitions.specs.declared.Options.{Options}
 use Rattle.meaning.specs.Machine.{State, putSpan, running, run}
 use Rattle.meaning.proofs.Items.{Item, lineOf, linesOf, runItems, run-lines}
 use Rattle.meaning.proofs.Wellformed.{Apart, BlockOk, BlocksOk}
@@ -37,7 +37,7 @@ items-set (i ∷ is) = (by i, items-set is)
     by (Item.valid T x) = tt
     by (Item.skipped n) = tt
 
-chunks-set : (o : EndiannessValue) (cs : List Chunk) → LinesSet Other (chunksLines o cs)
+chunks-set : (o : Options) (cs : List Chunk) → LinesSet Other (chunksLines o cs)
 chunks-set o cs = subst (LinesSet Other) (run-lines o cs) (items-set (runItems o cs))
 
 array-has : (id : Text) → HasArray Other id

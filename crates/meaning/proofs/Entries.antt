@@ -1,13 +1,16 @@
--- What an accepted record's target has: its entry of the tables, whose names were found and are no keywords, whose arrays have whole elements, and whose
--- bit fields have the widths that the record declares. From refusals 16 and 3 to 9, entry by entry.
+-- What an accepted record's target has: its entry of the tables, whose names were found, whose arrays have whole elements, and whose bit fields have the
+-- widths that the record declares. From refusals 16 and 3 to 9, entry by entry.
 -- Assumes nothing.
 use mathlib.Core.Bool.{Bool, true, false}
 use mathlib.Core.List.{List, [], _∷_, _++_}
 use mathlib.Core.Option.{Option, none, some}
 use mathlib.Core.Path.{_≡_, refl, sym, ap, _∙_, subst}
-use Prim.Native.Nat.{ℕ, _+_}
+use Prim.Native.Nat.{ℕ, suc, _+_, _≤_}
 use native.Mathlib.Nat.{add-zero}
-use borrow.Author.Tests.{not-false}
+use native.Mathlib.Omega.{arith}
+use lib.Dec.{ltb}
+use lib.ListN.{length}
+use borrow.Author.Tests.{not-false, ltb-false}
 use Rattle.definitions.specs.Bytes.{Text, any}
 use Rattle.definitions.specs.Record.{Declaration, RecordRead, recordIs, noRecord, readRecord}
 use Rattle.definitions.specs.Sizes.{Schema, Entry, Row, Annotated, totalSize, lookup, sameName, totalOf, descSize, annotateFields, rowOf, annotateDecl, annotateFrom, newSchema, parentId, descEnum, enumOf, isEnum, isBitfield, staticWidth}
@@ -27,11 +30,9 @@ use Rattle.definitions.specs.declared.Size.{Size}
 use Rattle.definitions.specs.declared.Refusal.{Refusal}
 use Rattle.definitions.specs.declared.Verdict.{Verdict}
 use Rattle.lengths.proofs.Booleans.{impossible, neither, refuse-next}
-use Rattle.lengths.proofs.Names.{FieldIs, FieldsAre, DeclarationsAre, RecordOk}
 use Rattle.meaning.specs.Rule.{enumWidth, declaredWidth, widthOf}
 use Rattle.meaning.specs.Runs.{Target, firstTarget, targetIn, targetOf}
-use Rattle.meaning.proofs.ChunkNames.{DescFree, FieldsFree, DeclarationsFree, RecordFree, record-free, Arrowless, record-arrowless}
-use Rattle.meaning.proofs.Keywords.{Usable, all-usable}
+use Rattle.meaning.proofs.ChunkNames.{DescFree, FieldsFree, DeclarationsFree, RecordFree, record-free}
 
 -- ---- tests over lists
 
@@ -124,8 +125,6 @@ pub record Fits (c : Setting) (a : Annotated) : Type 0 where
   pub whole : raggedField (c .source) (c .scope) (a .field) ≡ false
   -- its name is no `chunk` with a number
   pub free : DescFree (c .source) (a .field .desc)
-  -- none of its names is a keyword
-  pub usable : FieldIs (Usable (c .source)) (a .field)
   -- a bit field has its declared width
   pub wide : isBit c (a .field) ≡ true → staticWidth (a .fieldSize) ≡ widthOf c (a .field)
 
@@ -186,11 +185,10 @@ module _ (c : Setting) (earlier : List Declaration) (rows : Rows earlier (c .sco
       enum-width type (lookup (c .source) (c .scope) type) refl (lookup-ok (c .source) (c .scope) type ok) b
 
   fields-fit : (fs xs : List Field) → NoneOf (raggedField (c .source) (c .scope)) xs → NoneOf (λ (f : Field). badType (c .source) earlier (f .desc)) xs
-      → FieldsFree (c .source) xs → FieldsAre (Usable (c .source)) xs → AllFit c (annotateFields (c .source) (c .scope) fs xs)
+      → FieldsFree (c .source) xs → AllFit c (annotateFields (c .source) (c .scope) fs xs)
   unfolding annotateFields isBit
-  fields-fit fs [] r b f u = tt
-  fields-fit fs (x ∷ xs) r b f u =
-      (record { whole = r .0; free = f .0 .0; usable = u .0; wide = by (x .cond) }, fields-fit fs xs (r .1) (b .1) (f .1) (u .1))
+  fields-fit fs [] r b f = tt
+  fields-fit fs (x ∷ xs) r b f = (record { whole = r .0; free = f .0 .0; wide = by (x .cond) }, fields-fit fs xs (r .1) (b .1) (f .1))
     where
       by : (k : Cond)
           → elim k as (λ _. Bool) [ Cond.None ↦ isBitfield (c .source) (c .scope) (x .desc) | Cond.Some id value ↦ false ] ≡ true
@@ -208,24 +206,31 @@ unfolding annotateFields
 annotated-plain s rows fs [] = refl
 annotated-plain s rows fs (x ∷ xs) = ap (λ (l : List Field). x ∷ l) (annotated-plain s rows fs xs)
 
+annotated-length : (s : Text) (rows : List Row) (fs xs : List Field) → length (annotateFields s rows fs xs) ≡ length xs
+unfolding annotateFields
+annotated-length s rows fs [] = refl
+annotated-length s rows fs (x ∷ xs) = ap suc (annotated-length s rows fs xs)
+
 -- ---- the entries
 
 pub record EntryOk (s : Text) (h : Head) (e : Entry) : Type 0 where
   pub rows : RowsOk (e .earlier)
   pub fit : AllFit (settingOf s h e) (e .fields)
   pub fields-are : plain (e .fields) ≡ e .declaration .fields
+  pub few : length (e .fields) ≤ 64
 
 abbrev EntriesOk : Text → Head → Schema → Type 0
 EntriesOk s h [] = Unit {0}
 EntriesOk s h (e ∷ es) = EntryOk s h e × EntriesOk s h es
 
 entries-ok : (s : Text) (h : Head) (earlier : List Declaration) (rows : List Row) (ds : List Declaration) → Rows earlier rows → RowsOk rows
-    → unknownFrom s earlier ds ≡ false → DeclarationsFree s ds → DeclarationsAre (Usable s) ds
+    → any (λ (d : Declaration). ltb 64 (length (d .fields))) ds ≡ false → unknownFrom s earlier ds ≡ false → DeclarationsFree s ds
     → NoneOf (λ (e : Entry). any (raggedField s (e .earlier)) (e .declaration .fields)) (annotateFrom s rows ds)
     → EntriesOk s h (annotateFrom s rows ds)
 unfolding annotateFrom unknownFrom
-entries-ok s h earlier rows [] are ok u free usable r = tt
-entries-ok s h earlier rows (d ∷ ds) are ok u free usable r =
+entries-ok s h earlier rows [] are ok m u free r = tt
+entries-ok s h earlier rows (d ∷ ds) are ok m u free r =
+    let some = neither (ltb 64 (length (d .fields))) (any (λ (x : Declaration). ltb 64 (length (x .fields))) ds) m in
     let bad : badNames s earlier d ≡ false = neither (badNames s earlier d) (unknownFrom s (earlier ++ (d ∷ [])) ds) u .0 in
     let types : NoneOf (λ (x : Field). badType s earlier (x .desc)) (d .fields) =
     none-of (λ (x : Field). badType s earlier (x .desc)) (d .fields)
@@ -234,13 +239,14 @@ entries-ok s h earlier rows (d ∷ ds) are ok u free usable r =
         rows = ok;
         fit =
             fields-fit (settingOf s h (annotateDecl s rows d)) earlier are ok (d .fields) (d .fields)
-            (none-of (raggedField s rows) (d .fields) (r .0)) types (free .0) (usable .0);
+            (none-of (raggedField s rows) (d .fields) (r .0)) types (free .0);
         fields-are = annotated-plain s rows (d .fields) (d .fields);
+        few = omega (arith, annotated-length s rows (d .fields) (d .fields), ltb-false 64 (length (d .fields)) (some .0));
       },
       entries-ok s h (earlier ++ (d ∷ [])) (rows ++ (annotateDecl s rows d .row ∷ [])) ds
           (rows-more earlier rows d (annotateDecl s rows d .row) are refl)
           (rows-snoc rows (annotateDecl s rows d .row) ok (row-ok s rows (d .decl) (annotateFields s rows (d .fields) (d .fields))))
-          (neither (badNames s earlier d) (unknownFrom s (earlier ++ (d ∷ [])) ds) u .1) (free .1) (usable .1) (r .1),
+          (some .1) (neither (badNames s earlier d) (unknownFrom s (earlier ++ (d ∷ [])) ds) u .1) (free .1) (r .1),
     )
 
 -- ---- the answer
@@ -253,7 +259,8 @@ pub record Grounds (s : Text) (bs : List Block) (t : Target) : Type 0 where
 
 -- none of 16 and 3 to 9 is met
 module _ (s : Text) (h : Head) (ds : List Declaration) (schema : Schema) where
-  pub passes-tests : verdict s h ds schema ≡ Verdict.Pass → (keywordName s h ds ≡ false) × (unknownName s ds ≡ false) × (ragged s schema ≡ false)
+  passes-tests : verdict s h ds schema ≡ Verdict.Pass
+      → (keywordName s h ds ≡ false) × (tooMany ds ≡ false) × (unknownName s ds ≡ false) × (ragged s schema ≡ false)
   unfolding verdict
   passes-tests e =
       let free = refuse-next (keywordName s h ds) Refusal.Keyword _ e in
@@ -263,7 +270,7 @@ module _ (s : Text) (h : Head) (ds : List Declaration) (schema : Schema) where
       let range = refuse-next (outOfRange ds) Refusal.OutOfRange _ (unknown .1) in
       let size = refuse-next (large schema) Refusal.TooLarge _ (range .1) in
       let whole = refuse-next (ragged s schema) Refusal.NotWholeBytes _ (size .1) in
-      (free .0, unknown .0, whole .0)
+      (free .0, many .0, unknown .0, whole .0)
 
 -- the target is the first entry that is asked for
 first-lowered : (s : Text) (h : Head) (bs : List Block) (es : Schema) → EntriesOk s h es → lowerIn s h es ≡ accepted bs
@@ -282,38 +289,58 @@ first-lowered s h bs (d ∷ es) k e = by (λ f. first-lowered s h bs es (k .1) f
     by more true f = (record { head = h; entry = d }, refl, f, k .0)
     by more false f = more f
 
-pub has-grounds : (s : Text) (bs : List Block) → answer s ≡ accepted bs → (t : Target) × Grounds s bs t
-unfolding answer lowerRecord ragged
-has-grounds s bs = by (wrongLength s)
+-- an accepted record is read
+read-accepted : (s : Text) (bs : List Block) → answer s ≡ accepted bs → answerRead s (readRecord s) ≡ accepted bs
+unfolding answer
+read-accepted s bs e = by (wrongLength s) e
   where
-    tested : (h : Head) (ds : List Declaration) → readRecord s ≡ recordIs h ds → DeclarationsFree s ds → DeclarationsAre (Arrowless s) ds
-        → (v : Verdict) → verdict s h ds (newSchema s ds) ≡ v
-        → (elim v as (λ _. Outcome) [ Verdict.Pass ↦ lowerIn s h (newSchema s ds) | Verdict.Refuse why ↦ refused why ]) ≡ accepted bs
-        → (t : Target) × Grounds s bs t
-    tested h ds e free bare (Verdict.Refuse why) g f = impossible (cc)
-    tested h ds e free bare Verdict.Pass g f =
-        let p = passes-tests s h ds (newSchema s ds) g in
+    by : (b : Bool) → (elim b as (λ _. Outcome) [ true ↦ refused Refusal.RecordLength | false ↦ answerRead s (readRecord s) ]) ≡ accepted bs
+        → answerRead s (readRecord s) ≡ accepted bs
+    by true f = impossible (cc)
+    by false f = f
+
+pub has-record : (s : Text) (bs : List Block) → answer s ≡ accepted bs → (h : Head) × (ds : List Declaration) × (readRecord s ≡ recordIs h ds)
+has-record s bs e = by (readRecord s) (read-accepted s bs e)
+  where
+    by : (r : RecordRead) → answerRead s r ≡ accepted bs → (h : Head) × (ds : List Declaration) × (r ≡ recordIs h ds)
+    by noRecord f = impossible (cc)
+    by (recordIs h ds) f = (h, ds, refl)
+
+-- it meets none of the tests, and its target is lowered
+pub tests-passed : (s : Text) (bs : List Block) → answer s ≡ accepted bs → (h : Head) (ds : List Declaration) → readRecord s ≡ recordIs h ds
+    → (keywordName s h ds ≡ false) × (tooMany ds ≡ false) × (unknownName s ds ≡ false) × (ragged s (newSchema s ds) ≡ false)
+    × (lowerIn s h (newSchema s ds) ≡ accepted bs)
+unfolding lowerRecord
+tests-passed s bs e h ds r =
+    let v = by (verdict s h ds (newSchema s ds)) (ap (answerRead s) (sym r) ∙ read-accepted s bs e) in
+    let p = passes-tests s h ds (newSchema s ds) (v .0) in
+    (p .0, p .1, p .2, p .3, v .1)
+  where
+    by : (v : Verdict) → (elim v as (λ _. Outcome) [ Verdict.Pass ↦ lowerIn s h (newSchema s ds) | Verdict.Refuse why ↦ refused why ]) ≡ accepted bs
+        → (v ≡ Verdict.Pass) × (lowerIn s h (newSchema s ds) ≡ accepted bs)
+    by (Verdict.Refuse why) f = impossible (cc)
+    by Verdict.Pass f = (refl, f)
+
+pub has-grounds : (s : Text) (bs : List Block) → answer s ≡ accepted bs → (t : Target) × Grounds s bs t
+unfolding ragged tooMany
+has-grounds s bs e = by (has-record s bs e)
+  where
+    by : (h : Head) × (ds : List Declaration) × (readRecord s ≡ recordIs h ds) → (t : Target) × Grounds s bs t
+    by (h, ds, r) =
+        let p = tests-passed s bs e h ds r in
         let t =
         first-lowered s h bs (newSchema s ds)
-        (entries-ok s h [] [] ds tt tt (p .1) free (all-usable s h ds (p .0) bare)
-        (none-of (λ (x : Entry). any (raggedField s (x .earlier)) (x .declaration .fields)) (newSchema s ds) (p .2)))
-        f in
-        (t .0, record { lowers = t .2; is-target = ap (targetIn s) e ∙ t .1; ok = t .3 })
-
-    read : (r : RecordRead) → readRecord s ≡ r → RecordFree s r → RecordOk (Arrowless s) r → answerRead s r ≡ accepted bs → (t : Target) × Grounds s bs t
-    read noRecord e free bare f = impossible (cc)
-    read (recordIs h ds) e free bare f = tested h ds e free bare (verdict s h ds (newSchema s ds)) refl f
-
-    by : (b : Bool) → (elim b as (λ _. Outcome) [ true ↦ refused Refusal.RecordLength | false ↦ answerRead s (readRecord s) ]) ≡ accepted bs
-        → (t : Target) × Grounds s bs t
-    by true f = impossible (cc)
-    by false f = read (readRecord s) refl (record-free s) (record-arrowless s) f
+        (entries-ok s h [] [] ds tt tt (neither (ltb 32 (length ds)) (any (λ (d : Declaration). ltb 64 (length (d .fields))) ds) (p .1) .1) (p .2)
+        (subst (RecordFree s) r (record-free s))
+        (none-of (λ (x : Entry). any (raggedField s (x .earlier)) (x .declaration .fields)) (newSchema s ds) (p .3)))
+        (p .4) in
+        (t .0, record { lowers = t .2; is-target = ap (targetIn s) r ∙ t .1; ok = t .3 })
 
 -- there is one target
+pub same-target : {a b : Target} → some a ≡ some b → a ≡ b
+same-target g = cc
+
 pub grounds : (s : Text) (bs : List Block) → answer s ≡ accepted bs → (t : Target) → targetOf s ≡ some t → Grounds s bs t
 grounds s bs e t f =
     let h = has-grounds s bs e in
-    subst (Grounds s bs) (one (sym (h .1 .is-target) ∙ f)) (h .1)
-  where
-    one : {a b : Target} → some a ≡ some b → a ≡ b
-    one g = cc
+    subst (Grounds s bs) (same-target (sym (h .1 .is-target) ∙ f)) (h .1)

@@ -14,13 +14,13 @@ use Rattle.definitions.specs.Refusals.{raggedField}
 use Rattle.definitions.specs.Blocks.{Bit, Chunk, Block}
 use Rattle.definitions.specs.FieldParser.{Setting, FieldParser, Step, go, stop, andThen, new, append, flushed, checkCode, bitOf, kindOf, openChunk, closeChunk, parseBitField, Emit, appends, silent, refuses, isBit, parseUnchecked, emitted, parse, parseAll, done, Outcome, refused, accepted, codeOf, lowerFields}
 use Rattle.definitions.specs.Answer.{answer}
-use Rattle.definitions.specs.declared.EndiannessValue.{EndiannessValue}
+use Rattle.definitions.specs.declared.Options.{Options}
 use Rattle.definitions.specs.declared.Field.{Field}
 use Rattle.definitions.specs.declared.Refusal.{Refusal}
 use Rattle.meaning.specs.Rule.{widthOf, bitsIn, endRun, gather, runs}
 use Rattle.meaning.specs.Runs.{fieldsOf, blockRun, runsIn, placed, placedRun, placedRuns, Target, targetOf, setting}
 use Rattle.meaning.proofs.Entries.{plain, RowsOk, AllFit, Grounds, grounds}
-use Rattle.meaning.proofs.Wellformed.{OrderOf, Ordered, Plain}
+use Rattle.meaning.proofs.Wellformed.{OptionsOf, AllOptions, Plain}
 use Rattle.meaning.proofs.Accepted.{EmitOk, unchecked-ok}
 
 -- ---- one more at the end
@@ -38,9 +38,9 @@ group-snoc : (c : Setting) (gs : List (List Field)) (g : List Field) → placedR
 group-snoc c [] g = refl
 group-snoc c (f ∷ gs) g = ap (λ (l : List (List Bit)). placed c 0 f ∷ l) (group-snoc c gs g)
 
-order-snoc : (o : EndiannessValue) (bs : List Block) (b : Block) → Ordered o bs → OrderOf o b → Ordered o (bs ++ (b ∷ []))
-order-snoc o [] b h k = (k, tt)
-order-snoc o (d ∷ bs) b h k = (h .0, order-snoc o bs b (h .1) k)
+options-snoc : (o : Options) (bs : List Block) (b : Block) → AllOptions o bs → OptionsOf o b → AllOptions o (bs ++ (b ∷ []))
+options-snoc o [] b h k = (k, tt)
+options-snoc o (d ∷ bs) b h k = (h .0, options-snoc o bs b (h .1) k)
 
 bits-snoc : (c : Setting) (g : List Field) (f : Field) → bitsIn c (g ++ (f ∷ [])) ≡ bitsIn c g + widthOf c f
 bits-snoc c [] f = omega arith
@@ -65,18 +65,18 @@ end-placed c [] rs = refl
 end-placed c (g ∷ gs) rs = refl
 
 -- from p to q nothing is left pending and the open chunk stays
-record Flushed (o : EndiannessValue) (p q : FieldParser) : Type 0 where
+record Flushed (o : Options) (p q : FieldParser) : Type 0 where
   chunk : q .chunk ≡ p .chunk
   shift : q .shift ≡ p .shift
   pending : fieldsOf (q .uncheckedCode) ≡ []
   code : runsIn (q .code) ≡ runsIn (p .code) ++ endRun (fieldsOf (p .uncheckedCode)) []
-  order : Ordered o (p .code) → Ordered o (q .code)
+  options : AllOptions o (p .code) → AllOptions o (q .code)
 
-abbrev FlushedStep : EndiannessValue → FieldParser → Step → Type 0
+abbrev FlushedStep : Options → FieldParser → Step → Type 0
 FlushedStep o p (go q) = Flushed o p q
 FlushedStep o p (stop why) = Unit {0}
 
-flushed-run : (c : Setting) (p : FieldParser) (cs : List Chunk) → p .uncheckedCode ≡ cs → (bs : List Bit) → FlushedStep (c .options .endianness) p (flushed c p cs bs)
+flushed-run : (c : Setting) (p : FieldParser) (cs : List Chunk) → p .uncheckedCode ≡ cs → (bs : List Bit) → FlushedStep (c .options) p (flushed c p cs bs)
 flushed-run c p [] e bs =
     record {
       chunk = refl;
@@ -84,7 +84,7 @@ flushed-run c p [] e bs =
       pending = ap fieldsOf e;
       code =
           sym (append-nil (runsIn (p .code))) ∙ ap (λ (l : List Chunk). runsIn (p .code) ++ endRun (fieldsOf l) []) (sym e);
-      order = λ h. h;
+      options = λ h. h;
     }
 flushed-run c p (d ∷ ds) e [] =
     record {
@@ -92,37 +92,37 @@ flushed-run c p (d ∷ ds) e [] =
       shift = refl;
       pending = refl;
       code =
-          runs-snoc (p .code) (Block.checked (c .options .endianness) (p .offset) (p .uncheckedCode))
+          runs-snoc (p .code) (Block.checked (c .options) (p .offset) (p .uncheckedCode))
           ∙ ap (λ (l : List Chunk). runsIn (p .code) ++ (fieldsOf l ∷ [])) e
           ∙ ap (λ (l : List Chunk). runsIn (p .code) ++ endRun (fieldsOf l) []) (sym e);
-      order = λ k. order-snoc (c .options .endianness) (p .code) (Block.checked (c .options .endianness) (p .offset) (p .uncheckedCode)) k refl;
+      options = λ k. options-snoc (c .options) (p .code) (Block.checked (c .options) (p .offset) (p .uncheckedCode)) k refl;
     }
 flushed-run c p (d ∷ ds) e (b ∷ bs) = tt
 
-check-run : (c : Setting) (p : FieldParser) → FlushedStep (c .options .endianness) p (checkCode c p)
+check-run : (c : Setting) (p : FieldParser) → FlushedStep (c .options) p (checkCode c p)
 unfolding checkCode
 check-run c p = flushed-run c p (p .uncheckedCode) refl (p .chunk)
 
 -- a block of another field behind
-append-flushed : (o : EndiannessValue) (p q : FieldParser) (b : Block) → Plain b → Flushed o p q → Flushed o p (append q b)
+append-flushed : (o : Options) (p q : FieldParser) (b : Block) → Plain b → Flushed o p q → Flushed o p (append q b)
 append-flushed o p q b h f =
     record {
       chunk = f .chunk;
       shift = f .shift;
       pending = f .pending;
       code = runs-snoc (q .code) b ∙ ap (λ (l : List (List (List Bit))). runsIn (q .code) ++ l) (h .0) ∙ append-nil (runsIn (q .code)) ∙ f .code;
-      order = λ k. order-snoc o (q .code) b (f .order k) (h .1 o);
+      options = λ k. options-snoc o (q .code) b (f .options k) (h .1 o);
     }
 
 -- ---- all the fields
 
 module _ (c : Setting) (rows : RowsOk (c .scope)) where
-  abbrev o : EndiannessValue
-  o = c .options .endianness
+  abbrev o : Options
+  o = c .options
 
   -- these runs are added to the code
   abbrev Adds : List Block → List (List (List Field)) → Step → Type 0
-  Adds bs rs (go q) = (runsIn (q .code) ≡ runsIn bs ++ placedRuns c rs) × (Ordered o bs → Ordered o (q .code))
+  Adds bs rs (go q) = (runsIn (q .code) ≡ runsIn bs ++ placedRuns c rs) × (AllOptions o bs → AllOptions o (q .code))
   Adds bs rs (stop why) = Unit {0}
 
   -- the fields of the open chunk, and the groups of the pending ones
@@ -141,7 +141,7 @@ module _ (c : Setting) (rows : RowsOk (c .scope)) where
         ∙ append-assoc (runsIn (p .code)) (endRun (fieldsOf (p .uncheckedCode)) []) (placedRuns c rs)
         ∙ ap (λ (g : List (List Bit)). runsIn (p .code) ++ (endRun g [] ++ placedRuns c rs)) e
         ∙ ap (λ (l : List (List (List Bit))). runsIn (p .code) ++ l) (sym (end-placed c closed rs)),
-    λ k. m .1 (f .order k),
+    λ k. m .1 (f .options k),
   )
 
   -- at the end
@@ -188,7 +188,7 @@ module _ (c : Setting) (rows : RowsOk (c .scope)) where
 
       pending-now : fieldsOf (closeChunk p now grown .uncheckedCode) ≡ placedRun c (closed ++ (more ∷ []))
       pending-now =
-          chunk-snoc (p .uncheckedCode) (record { nr = p .chunkNr; fields = grown })
+          chunk-snoc (p .uncheckedCode) (record { nr = p .chunkNr; rawNr = p .rawNr; fields = grown })
           ∙ ap (λ (l : List (List Bit)). l ++ (grown ∷ [])) (gathers .pending)
           ∙ ap (λ (x : List Bit). placedRun c closed ++ (x ∷ [])) chunk-now
           ∙ sym (group-snoc c closed more)
@@ -261,10 +261,10 @@ module _ (c : Setting) (rows : RowsOk (c .scope)) where
 
 -- ---- the answer
 
--- the checked runs are the runs of the target's fields, and read in the file's order
+-- the checked runs are the runs of the target's fields, with the head's choices
 pub record Shaped (c : Setting) (bs : List Block) : Type 0 where
   pub runs-are : runsIn bs ≡ placedRuns c (runs c)
-  pub order : Ordered (c .options .endianness) bs
+  pub options : AllOptions (c .options) bs
 
 abbrev OutcomeShaped : Setting → Outcome → Type 0
 OutcomeShaped c (refused why) = Unit {0}
@@ -279,7 +279,7 @@ lower-shaped c rows xs fit are =
   where
     by : (s : Step) → Adds c rows [] (runs c) s → OutcomeShaped c (codeOf s)
     by (stop why) m = tt
-    by (go p) m = record { runs-are = m .0; order = m .1 tt }
+    by (go p) m = record { runs-are = m .0; options = m .1 tt }
 
 pub shaped : (s : Text) (bs : List Block) → answer s ≡ accepted bs → (t : Target) → targetOf s ≡ some t → Shaped (setting s t) bs
 shaped s bs e t f =

@@ -3,29 +3,26 @@
 -- Assumes nothing.
 use mathlib.Core.Bool.{Bool, true, false, _||_}
 use mathlib.Core.List.{List, [], _∷_, _++_}
-use mathlib.Core.Path.{_≡_, refl, sym, ap, _∙_}
+use mathlib.Core.Path.{_≡_, refl, ap, _∙_}
 use Prim.Native.Nat.{ℕ, _/_}
 use Rattle.definitions.specs.Bytes.{Text, text, pick, any}
 use Rattle.definitions.specs.Keywords.{keywords, isKeyword}
 use Rattle.definitions.specs.Record.{Declaration, recordIs, readRecord}
-use Rattle.definitions.specs.Sizes.{newSchema}
-use Rattle.definitions.specs.Refusals.{recordNames, anyKeyword, verdict}
+use Rattle.definitions.specs.Refusals.{recordNames, anyKeyword}
 use Rattle.definitions.specs.Lines.{Src, Dest, Out, Line, Stmt}
-use Rattle.definitions.specs.Blocks.{span, raw, elementSpan, Kind, Bit, Chunk, mask, readOf, kindLines, bitsLines, readLines, shouldSkipValue, widths, chunkName, chunkLines, chunksLines, body, named, bare, Elem, parseArrayElement, parseArrayFieldLite, parseArrayFieldFull, byMode, Array, arrayLines, fieldLines, Block, blockLines, program}
-use Rattle.definitions.specs.FieldParser.{Outcome, refused, accepted}
-use Rattle.definitions.specs.Answer.{lowerIn, lowerRecord, answerRead, wrongLength, answer}
-use Rattle.definitions.specs.declared.EndiannessValue.{EndiannessValue}
+use Rattle.definitions.specs.Blocks.{span, elementSpan, Kind, Bit, Chunk, mask, readOf, rawName, nextRaw, kindLines, bitsLines, readLines, shouldSkipValue, widths, chunkName, chunkLines, chunksLines, body, named, bare, Elem, parseArrayElement, parseArrayFieldLite, parseArrayFieldFull, byMode, Array, arrayLines, fieldLines, Block, blockLines, program}
+use Rattle.definitions.specs.FieldParser.{accepted}
+use Rattle.definitions.specs.Answer.{answer}
+use Rattle.definitions.specs.declared.Raw.{Raw}
+use Rattle.definitions.specs.declared.Options.{Options}
 use Rattle.definitions.specs.declared.Arrays.{Arrays}
 use Rattle.definitions.specs.declared.Modifier.{Modifier}
 use Rattle.definitions.specs.declared.ElementSize.{ElementSize}
 use Rattle.definitions.specs.declared.ArraySize.{ArraySize}
 use Rattle.definitions.specs.declared.Head.{Head}
-use Rattle.definitions.specs.declared.Refusal.{Refusal}
-use Rattle.definitions.specs.declared.Verdict.{Verdict}
-use Rattle.lengths.proofs.Booleans.{impossible}
 use Rattle.meaning.specs.Identifiers.{turn, exprIds, srcIds, testIds, destIds, outIds, lineIds, linesIds, stmtIds, identifiers, behindArrow}
-use Rattle.meaning.proofs.Keywords.{NotKeyword, span-end, start-end, bare-free, named-free, chunk-free}
-use Rattle.meaning.proofs.Entries.{passes-tests}
+use Rattle.meaning.proofs.Keywords.{NotKeyword, span-end, start-end, bare-free, named-free, chunk-free, raw-free, tested-free}
+use Rattle.meaning.proofs.Entries.{tests-passed}
 use Rattle.meaning.proofs.Unreserved.{KindNames, BitsNames, ChunksNames, ElemNames, ArrayNames, BlockNames, BlocksNames, blocks-names}
 
 -- none of these texts is a keyword
@@ -38,10 +35,6 @@ Free (x ∷ xs) = NotKeyword x × Free xs
 span-free : NotKeyword span
 unfolding keywords isKeyword
 span-free = record { whole = refl; behind = refl }
-
-raw-free : NotKeyword raw
-unfolding keywords isKeyword
-raw-free = record { whole = refl; behind = refl }
 
 part-free : NotKeyword elementSpan
 unfolding keywords isKeyword
@@ -92,38 +85,42 @@ body-free (x ∷ b) l h k = (h .0, body-free b l (h .1) k)
 
 -- ---- checked runs
 
-kind-free : (v : Src) (k : Kind) → Free (srcIds v) → KindNames k → LinesFree (kindLines v k)
-kind-free v (Kind.number x) h k = ((k, h), tt)
-kind-free v (Kind.condition x) h k = ((k, h), tt)
-kind-free v (Kind.openEnum x type) h k = ((k .0, (k .1, h)), tt)
-kind-free v (Kind.closedEnum x type) h k = search fixed
-kind-free v (Kind.fixedScalar n) h k = (h, tt)
-kind-free v (Kind.fixedEnum type tag) h k = ((k .0, (k .1, h)), tt)
-kind-free v Kind.reserved h k = tt
+kind-free : (r : Text) (v : Src) (k : Kind) → NotKeyword r → Free (srcIds v) → KindNames NotKeyword k → LinesFree (kindLines r v k)
+kind-free r v (Kind.number x) f h k = ((k, h), tt)
+kind-free r v (Kind.condition x) f h k = ((k, h), tt)
+kind-free r v (Kind.openEnum x type) f h k = ((k .0, (k .1, h)), tt)
+kind-free r v (Kind.closedEnum x type) f h k = ((f, h), ((k .1, (f, tt)), ((k .0, (k .1, (f, tt))), tt)))
+kind-free r v (Kind.fixedScalar n) f h k = (h, tt)
+kind-free r v (Kind.fixedEnum type tag) f h k = ((k .0, (k .1, h)), tt)
+kind-free r v Kind.reserved f h k = tt
 
-bits-free : (x : Text) (bs : List Bit) → NotKeyword x → BitsNames bs → LinesFree (bitsLines x bs)
-bits-free x [] h k = tt
-bits-free x (b ∷ bs) h k =
+bits-free : (m : Raw) (x : Text) (n : ℕ) (bs : List Bit) → NotKeyword x → BitsNames NotKeyword bs → LinesFree (bitsLines m x n bs)
+bits-free m x n [] h k = tt
+bits-free m x n (b ∷ bs) h k =
     let v : Src = Src.bits x (b .shift) (mask (b .width)) in
-    append-free (kindLines v (b .kind)) (bitsLines x bs) (kind-free v (b .kind) (h, tt) (k .0)) (bits-free x bs h (k .1))
+    append-free (kindLines (rawName m n) v (b .kind)) (bitsLines m x (nextRaw n (b .kind)) bs)
+    (kind-free (rawName m n) v (b .kind) (tested-free m n) (h, tt) (k .0))
+    (bits-free m x (nextRaw n (b .kind)) bs h (k .1))
 
-read-free : (o : EndiannessValue) (nr w : ℕ) (bs : List Bit) → BitsNames bs → LinesFree (readLines o nr w bs)
-read-free o nr w [] k = tt
-read-free o nr w (b ∷ []) k = kind-free (readOf span o w) (b .kind) (span-free, tt) (k .0)
-read-free o nr w (b ∷ d ∷ bs) k = ((chunk-free nr, (span-free, tt)), bits-free (chunkName nr) (b ∷ d ∷ bs) (chunk-free nr) k)
+read-free : (o : Options) (nr n w : ℕ) (bs : List Bit) → BitsNames NotKeyword bs → LinesFree (readLines o nr n w bs)
+read-free o nr n w [] k = tt
+read-free o nr n w (b ∷ []) k =
+    kind-free (rawName (o .raw) n) (readOf span (o .endianness) w) (b .kind) (tested-free (o .raw) n) (span-free, tt) (k .0)
+read-free o nr n w (b ∷ d ∷ bs) k =
+    ((chunk-free nr, (span-free, tt)), bits-free (o .raw) (chunkName nr) n (b ∷ d ∷ bs) (chunk-free nr) k)
 
-chunks-free : (o : EndiannessValue) (cs : List Chunk) → ChunksNames cs → LinesFree (chunksLines o cs)
+chunks-free : (o : Options) (cs : List Chunk) → ChunksNames NotKeyword cs → LinesFree (chunksLines o cs)
 chunks-free o [] k = tt
-chunks-free o (c ∷ cs) k = append-free (chunkLines o (c .nr) (c .fields)) (chunksLines o cs) (by (shouldSkipValue (c .fields))) (chunks-free o cs (k .1))
+chunks-free o (c ∷ cs) k = append-free (chunkLines o c) (chunksLines o cs) (by (shouldSkipValue (c .fields))) (chunks-free o cs (k .1))
   where
     by : (skips : Bool)
-        → LinesFree (pick skips (Line.reserved span (widths (c .fields) / 8) ∷ []) (readLines o (c .nr) (widths (c .fields)) (c .fields)))
+        → LinesFree (pick skips (Line.reserved span (widths (c .fields) / 8) ∷ []) (readLines o (c .nr) (c .rawNr) (widths (c .fields)) (c .fields)))
     by true = search fixed
-    by false = read-free o (c .nr) (widths (c .fields)) (c .fields) (k .0)
+    by false = read-free o (c .nr) (c .rawNr) (widths (c .fields)) (c .fields) (k .0)
 
 -- ---- arrays
 
-element-free : (s : Text) (e : Elem) (d : Dest) (o : Out) → NotKeyword s → ElemNames e → Free (destIds d) → Free (outIds o)
+element-free : (s : Text) (e : Elem) (d : Dest) (o : Out) → NotKeyword s → ElemNames NotKeyword e → Free (destIds d) → Free (outIds o)
     → LinesFree (parseArrayElement s e d o)
 element-free s (Elem.scalar order w) d o h k i j = (both-free (destIds d) (s ∷ []) i (h, tt), tt)
 element-free s (Elem.openEnum type order w) d o h k i j = (both-free (destIds d) (type ∷ s ∷ []) i (k, (h, tt)), tt)
@@ -131,7 +128,7 @@ element-free s (Elem.closedEnum type order w) d o h k i j = search (fixed, both-
 element-free s (Elem.parsed type) d o h k i j = search (fixed, both-free)
 
 -- an array; its variables are its name with an end
-module _ (id type : Text) (e : Elem) (typed : NotKeyword type) (elem : ElemNames e) (l : List Stmt) (behind : StmtsFree l) where
+module _ (id type : Text) (e : Elem) (typed : NotKeyword type) (elem : ElemNames NotKeyword e) (l : List Stmt) (behind : StmtsFree l) where
   array-free : (m : Arrays) → NotKeyword (named m id (text "_"))
   array-free m = named-free m id []
 
@@ -181,22 +178,22 @@ module _ (id type : Text) (e : Elem) (typed : NotKeyword type) (elem : ElemNames
   full-free ElementSize.Unknown ArraySize.DynamicSize = search (variables, span-end) depth 20
   full-free ElementSize.Unknown ArraySize.Unknown = search variables depth 20
 
-array-lines : (a : Array) (l : List Stmt) → ArrayNames a → StmtsFree l → StmtsFree (arrayLines a l)
+array-lines : (a : Array) (l : List Stmt) → ArrayNames NotKeyword a → StmtsFree l → StmtsFree (arrayLines a l)
 array-lines a l h k = by (a .mode)
   where
     by : (m : Arrays) → StmtsFree (byMode m (a .id) (a .type) (a .elem) l (a .elementSize) (a .arraySize))
     by Arrays.Lite = lite-free (a .id) (a .type) (a .elem) (h .0) (h .1) l k (a .elementSize) (a .arraySize)
     by Arrays.Full = full-free (a .id) (a .type) (a .elem) (h .0) (h .1) l k (a .elementSize) (a .arraySize)
 
-field-free : (m : Modifier) (w : ℕ) (a : Array) (l : List Stmt) → ArrayNames a → StmtsFree l → StmtsFree (fieldLines m w a l)
+field-free : (m : Modifier) (w : ℕ) (a : Array) (l : List Stmt) → ArrayNames NotKeyword a → StmtsFree l → StmtsFree (fieldLines m w a l)
 field-free Modifier.None w a l h k = array-lines a l h k
 field-free (Modifier.Plus n) w a l h k = ((named-free (a .mode) (a .id) (text "_size"), tt), array-lines a l h k)
 field-free (Modifier.Minus n) w a l h k = ((named-free (a .mode) (a .id) (text "_size"), tt), array-lines a l h k)
 
 -- ---- blocks
 
-block-free : (b : Block) (l : List Stmt) → BlockNames b → StmtsFree l → StmtsFree (blockLines b l)
-block-free (Block.checked order n cs) l h k = ((span-free, tt), body-free (chunksLines order cs) l (chunks-free order cs h) k)
+block-free : (b : Block) (l : List Stmt) → BlockNames NotKeyword b → StmtsFree l → StmtsFree (blockLines b l)
+block-free (Block.checked o n cs) l h k = ((span-free, tt), body-free (chunksLines o cs) l (chunks-free o cs h) k)
 block-free (Block.sizedPayload x s Modifier.None) l h k = search fixed depth 20
 block-free (Block.sizedPayload x s (Modifier.Plus n)) l h k = search fixed depth 20
 block-free (Block.sizedPayload x s (Modifier.Minus n)) l h k = search fixed depth 20
@@ -212,7 +209,7 @@ block-free (Block.optionalNested c v x type) l h k = search fixed depth 20
 block-free (Block.nested type x) l h k = search fixed depth 20
 block-free (Block.nestedUpTo id n type x) l h k = search (fixed, span-end) depth 20
 
-program-free : (bs : List Block) → BlocksNames bs → StmtsFree (program bs)
+program-free : (bs : List Block) → BlocksNames NotKeyword bs → StmtsFree (program bs)
 program-free [] h = tt
 program-free (b ∷ bs) h = block-free b (program bs) (h .0) (program-free bs (h .1))
 
@@ -257,19 +254,7 @@ nested-own = refl
 -- no name of an accepted record is a keyword
 pub names-free : (s : Text) (bs : List Block) → answer s ≡ accepted bs
     → (h : Head) (ds : List Declaration) → readRecord s ≡ recordIs h ds → anyKeyword s (recordNames h ds) ≡ false
-unfolding answer lowerRecord
-names-free s bs e h ds r = by (wrongLength s) e
-  where
-    tested : (v : Verdict) → verdict s h ds (newSchema s ds) ≡ v
-        → (elim v as (λ _. Outcome) [ Verdict.Pass ↦ lowerIn s h (newSchema s ds) | Verdict.Refuse why ↦ refused why ]) ≡ accepted bs
-        → anyKeyword s (recordNames h ds) ≡ false
-    tested (Verdict.Refuse why) g f = impossible (cc)
-    tested Verdict.Pass g f = passes-tests s h ds (newSchema s ds) g .0
-
-    by : (b : Bool) → (elim b as (λ _. Outcome) [ true ↦ refused Refusal.RecordLength | false ↦ answerRead s (readRecord s) ]) ≡ accepted bs
-        → anyKeyword s (recordNames h ds) ≡ false
-    by true f = impossible (cc)
-    by false f = tested (verdict s h ds (newSchema s ds)) refl (ap (answerRead s) (sym r) ∙ f)
+names-free s bs e h ds r = tests-passed s bs e h ds r .0
 
 all-free : (s : Text) (bs : List Block) → answer s ≡ accepted bs → Free (identifiers (program bs))
 all-free s bs e = stmts-free (program bs) (program-free bs (blocks-names s bs e))

@@ -11,10 +11,11 @@ use lib.Seq.{drop-at}
 use borrow.Author.Tests.{lt-ltb, ne-eqb}
 use Rattle.definitions.specs.Bytes.{Text, text, pick, any, part, same, decimal}
 use Rattle.definitions.specs.Keywords.{keywords, isKeyword}
-use Rattle.definitions.specs.Record.{Declaration}
-use Rattle.definitions.specs.Refusals.{maybeName, descNames, condNames, fieldNames, declNames, fieldsNames, declarationsNames, anyKeyword, keywordName}
-use Rattle.definitions.specs.Blocks.{chunkName, prefix, named, bare, startName}
+use Rattle.definitions.specs.Record.{Declaration, recordIs, readRecord}
+use Rattle.definitions.specs.Refusals.{maybeName, descNames, condNames, fieldNames, declNames, fieldsNames, declarationsNames, recordNames, anyKeyword, keywordName}
+use Rattle.definitions.specs.Blocks.{raw, rawName, chunkName, prefix, named, bare, startName}
 use Rattle.definitions.specs.declared.Arrays.{Arrays}
+use Rattle.definitions.specs.declared.Raw.{Raw}
 use Rattle.definitions.specs.declared.Part.{Part}
 use Rattle.definitions.specs.declared.MaybePart.{MaybePart}
 use Rattle.definitions.specs.declared.Head.{Head}
@@ -22,10 +23,10 @@ use Rattle.definitions.specs.declared.FieldDesc.{FieldDesc}
 use Rattle.definitions.specs.declared.Cond.{Cond}
 use Rattle.definitions.specs.declared.Field.{Field}
 use Rattle.lengths.proofs.Booleans.{impossible, neither}
-use Rattle.lengths.proofs.Names.{MaybeIs, DescIs, CondIs, FieldsAre, DeclarationsAre}
+use Rattle.lengths.proofs.Names.{MaybeIs, DescIs, CondIs, FieldsAre, DeclarationsAre, RecordOk}
 use Rattle.meaning.specs.Identifiers.{behindArrow}
 use Rattle.meaning.proofs.Names.{same-self, apart-by}
-use Rattle.meaning.proofs.ChunkNames.{Ended, decimal-ended, Arrowless}
+use Rattle.meaning.proofs.ChunkNames.{Ended, decimal-ended, Arrowless, record-arrowless}
 
 -- neither as it is written nor without its `output->`
 pub record NotKeyword (t : Text) : Type 0 where
@@ -108,12 +109,24 @@ named-free m id end =
     (subst NotKeyword (append-assoc (prefix m) (id ++ end) (text "_")) (low-end (prefix m ++ (id ++ end)) 95 (omega arith) (omega arith)))
 
 -- ends in a digit
+number-free : (a : Text) (n : ℕ) → NotKeyword (a ++ decimal n)
+number-free a n =
+    let e : Ended (decimal n) = decimal-ended n in
+    let f : (a ++ e .front) ++ (e .last ∷ []) ≡ a ++ decimal n =
+    append-assoc a (e .front) (e .last ∷ []) ∙ ap (λ (t : Text). a ++ t) (sym (e .are)) in
+    subst NotKeyword f (low-end (a ++ e .front) (e .last) (omega (arith, e .digit .1)) (λ g. omega (arith, g, e .digit .1)))
+
 pub chunk-free : (nr : ℕ) → NotKeyword (chunkName nr)
-chunk-free nr =
-    let e : Ended (decimal nr) = decimal-ended nr in
-    let f : (text "chunk" ++ e .front) ++ (e .last ∷ []) ≡ chunkName nr =
-    append-assoc (text "chunk") (e .front) (e .last ∷ []) ∙ ap (λ (t : Text). text "chunk" ++ t) (sym (e .are)) in
-    subst NotKeyword f (low-end (text "chunk" ++ e .front) (e .last) (omega (arith, e .digit .1)) (λ g. omega (arith, g, e .digit .1)))
+chunk-free nr = number-free (text "chunk") nr
+
+-- what a tested enum is held in
+pub raw-free : NotKeyword raw
+unfolding keywords isKeyword
+raw-free = record { whole = refl; behind = refl }
+
+pub tested-free : (m : Raw) (k : ℕ) → NotKeyword (rawName m k)
+tested-free Raw.Plain k = raw-free
+tested-free Raw.Numbered k = number-free raw k
 
 -- ---- from the list of a record's names
 
@@ -176,16 +189,16 @@ module _ (f : Part → Bool) (P Q : Part → Type 0) (holds : (n : Part) → f n
       let n = none-append f (fieldsNames (d .fields)) (declarationsNames ds) (k .1) in
       (fields-are (d .fields) (n .0) (h .0), declarations-are ds (n .1) (h .1))
 
--- a name of the record that is no keyword
-abbrev pub Usable : Text → Part → Type 0
-Usable s n = NotKeyword (part s n)
+-- of each name of a record that was read
+module _ (s : Text) (h : Head) (ds : List Declaration) (r : readRecord s ≡ recordIs h ds) where
+  pub names-are : (f : Part → Bool) (Q : Part → Type 0) → ((n : Part) → f n ≡ false → Arrowless s n → Q n) → any f (recordNames h ds) ≡ false
+      → DeclarationsAre Q ds
+  names-are f Q holds e =
+      declarations-are f (Arrowless s) Q holds ds (neither (f (h .target)) (any f (declarationsNames ds)) e .1)
+      (subst (RecordOk (Arrowless s)) r (record-arrowless s))
 
-usable : (s : Text) (n : Part) → isKeyword (part s n) ≡ false → Arrowless s n → Usable s n
-usable s n h k = record { whole = h; behind = ap isKeyword (arrowless-self (part s n) k) ∙ h }
-
-pub all-usable : (s : Text) (h : Head) (ds : List Declaration) → keywordName s h ds ≡ false → DeclarationsAre (Arrowless s) ds
-    → DeclarationsAre (Usable s) ds
-unfolding anyKeyword
-all-usable s h ds e k =
-    let f : Part → Bool = λ n. isKeyword (part s n) in
-    declarations-are f (Arrowless s) (Usable s) (usable s) ds (neither (f (h .target)) (any f (declarationsNames ds)) e .1) k
+  -- that it is no keyword
+  pub all-usable : keywordName s h ds ≡ false → DeclarationsAre (λ n. NotKeyword (part s n)) ds
+  unfolding anyKeyword
+  all-usable e =
+      names-are (λ n. isKeyword (part s n)) _ (λ n g k. record { whole = g; behind = ap isKeyword (arrowless-self (part s n) k) ∙ g }) e

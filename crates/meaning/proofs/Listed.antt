@@ -6,8 +6,9 @@ use mathlib.Core.List.{List, [], _∷_, _++_}
 use Prim.Native.Nat.{ℕ, _/_}
 use Rattle.definitions.specs.Bytes.{Text, pick, all}
 use Rattle.definitions.specs.Lines.{Src, Dest, Out, Line, Stmt}
-use Rattle.definitions.specs.Blocks.{Kind, Bit, Chunk, mask, readOf, kindLines, bitsLines, readLines, shouldSkipValue, widths, span, chunkName, chunkLines, chunksLines, body, Elem, parseArrayElement, parseArrayFieldLite, parseArrayFieldFull, byMode, Array, arrayLines, fieldLines, Block, blockLines, program}
-use Rattle.definitions.specs.declared.EndiannessValue.{EndiannessValue}
+use Rattle.definitions.specs.Blocks.{Kind, Bit, Chunk, mask, readOf, rawName, nextRaw, kindLines, bitsLines, readLines, shouldSkipValue, widths, span, chunkName, chunkLines, chunksLines, body, Elem, parseArrayElement, parseArrayFieldLite, parseArrayFieldFull, byMode, Array, arrayLines, fieldLines, Block, blockLines, program}
+use Rattle.definitions.specs.declared.Raw.{Raw}
+use Rattle.definitions.specs.declared.Options.{Options}
 use Rattle.definitions.specs.declared.Arrays.{Arrays}
 use Rattle.definitions.specs.declared.Modifier.{Modifier}
 use Rattle.definitions.specs.declared.ElementSize.{ElementSize}
@@ -35,36 +36,39 @@ body-written (x ∷ b) l h =
 
 -- ---- checked runs
 
-kind-written : (v : Src) (k : Kind) → all writtenLine (kindLines v k) ≡ true
-kind-written v (Kind.number x) = refl
-kind-written v (Kind.condition x) = refl
-kind-written v (Kind.openEnum x type) = refl
-kind-written v (Kind.closedEnum x type) = refl
-kind-written v (Kind.fixedScalar n) = refl
-kind-written v (Kind.fixedEnum type tag) = refl
-kind-written v Kind.reserved = refl
+kind-written : (r : Text) (v : Src) (k : Kind) → all writtenLine (kindLines r v k) ≡ true
+kind-written r v (Kind.number x) = refl
+kind-written r v (Kind.condition x) = refl
+kind-written r v (Kind.openEnum x type) = refl
+kind-written r v (Kind.closedEnum x type) = refl
+kind-written r v (Kind.fixedScalar n) = refl
+kind-written r v (Kind.fixedEnum type tag) = refl
+kind-written r v Kind.reserved = refl
 
-bits-written : (x : Text) (bs : List Bit) → all writtenLine (bitsLines x bs) ≡ true
-bits-written x [] = refl
-bits-written x (b ∷ bs) =
+bits-written : (m : Raw) (x : Text) (k : ℕ) (bs : List Bit) → all writtenLine (bitsLines m x k bs) ≡ true
+bits-written m x k [] = refl
+bits-written m x k (b ∷ bs) =
     let v : Src = Src.bits x (b .shift) (mask (b .width)) in
-    all-append (kindLines v (b .kind)) (bitsLines x bs) (kind-written v (b .kind)) (bits-written x bs)
+    all-append (kindLines (rawName m k) v (b .kind)) (bitsLines m x (nextRaw k (b .kind)) bs) (kind-written (rawName m k) v (b .kind))
+    (bits-written m x (nextRaw k (b .kind)) bs)
 
-read-written : (o : EndiannessValue) (nr w : ℕ) (bs : List Bit) → all writtenLine (readLines o nr w bs) ≡ true
-read-written o nr w [] = refl
-read-written o nr w (b ∷ []) = kind-written (readOf span o w) (b .kind)
-read-written o nr w (b ∷ d ∷ bs) = bits-written (chunkName nr) (b ∷ d ∷ bs)
+read-written : (o : Options) (nr k w : ℕ) (bs : List Bit) → all writtenLine (readLines o nr k w bs) ≡ true
+read-written o nr k w [] = refl
+read-written o nr k w (b ∷ []) = kind-written (rawName (o .raw) k) (readOf span (o .endianness) w) (b .kind)
+read-written o nr k w (b ∷ d ∷ bs) = bits-written (o .raw) (chunkName nr) k (b ∷ d ∷ bs)
 
-chunk-written : (o : EndiannessValue) (nr : ℕ) (bs : List Bit) → all writtenLine (chunkLines o nr bs) ≡ true
-chunk-written o nr bs = by (shouldSkipValue bs)
+chunk-written : (o : Options) (c : Chunk) → all writtenLine (chunkLines o c) ≡ true
+chunk-written o c = by (shouldSkipValue (c .fields))
   where
-    by : (skips : Bool) → all writtenLine (pick skips (Line.reserved span (widths bs / 8) ∷ []) (readLines o nr (widths bs) bs)) ≡ true
+    by : (skips : Bool)
+        → all writtenLine (pick skips (Line.reserved span (widths (c .fields) / 8) ∷ []) (readLines o (c .nr) (c .rawNr) (widths (c .fields)) (c .fields)))
+        ≡ true
     by true = refl
-    by false = read-written o nr (widths bs) bs
+    by false = read-written o (c .nr) (c .rawNr) (widths (c .fields)) (c .fields)
 
-chunks-written : (o : EndiannessValue) (cs : List Chunk) → all writtenLine (chunksLines o cs) ≡ true
+chunks-written : (o : Options) (cs : List Chunk) → all writtenLine (chunksLines o cs) ≡ true
 chunks-written o [] = refl
-chunks-written o (c ∷ cs) = all-append (chunkLines o (c .nr) (c .fields)) (chunksLines o cs) (chunk-written o (c .nr) (c .fields)) (chunks-written o cs)
+chunks-written o (c ∷ cs) = all-append (chunkLines o c) (chunksLines o cs) (chunk-written o c) (chunks-written o cs)
 
 -- ---- arrays
 
@@ -122,7 +126,7 @@ field-written (Modifier.Minus n) w a l = array-written a l
 -- ---- blocks
 
 block-written : (b : Block) (l : List Stmt) → written (blockLines b l) ≡ written l
-block-written (Block.checked order n cs) l = body-written (chunksLines order cs) l (chunks-written order cs)
+block-written (Block.checked o n cs) l = body-written (chunksLines o cs) l (chunks-written o cs)
 block-written (Block.sizedPayload x s Modifier.None) l = refl
 block-written (Block.sizedPayload x s (Modifier.Plus n)) l = refl
 block-written (Block.sizedPayload x s (Modifier.Minus n)) l = refl

@@ -6,11 +6,11 @@ use Prim.Native.Nat.{ℕ}
 use native.Mathlib.Omega.{arith}
 use Rattle.definitions.specs.Blocks.{Bit, Chunk, Block}
 use Rattle.definitions.specs.FieldParser.{Setting}
-use Rattle.definitions.specs.declared.EndiannessValue.{EndiannessValue}
+use Rattle.definitions.specs.declared.Options.{Options}
 use Rattle.definitions.specs.declared.Field.{Field}
 use Rattle.meaning.specs.Runs.{CheckedRun, fieldsOf, blockRun, runsIn, placed, placedRun, placedRuns}
 use Rattle.meaning.specs.Places.{BitField, groupOf, ChunkOf}
-use Rattle.meaning.proofs.Wellformed.{OrderOf, Ordered}
+use Rattle.meaning.proofs.Wellformed.{OptionsOf, AllOptions}
 use Rattle.meaning.proofs.Grouped.{Shaped}
 
 first-is : {A : Type 0} {a b : A} {x y : List A} → a ∷ x ≡ b ∷ y → a ≡ b
@@ -40,7 +40,7 @@ more-blocks b bs R X s =
       run =
           record {
             pre = b ∷ s .run .pre;
-            order = s .run .order;
+            options = s .run .options;
             number = s .run .number;
             chunks = s .run .chunks;
             post = s .run .post;
@@ -52,15 +52,15 @@ more-blocks b bs R X s =
 
 find : (bs : List Block) (R : List (List Bit)) (Y X : List (List (List Bit))) → runsIn bs ≡ X ++ (R ∷ Y) → Spot bs R X
 find [] R Y X e = absurd (nowhere X R Y e)
-find (Block.checked order n cs ∷ bs) R Y [] e =
+find (Block.checked o n cs ∷ bs) R Y [] e =
     record {
-      run = record { pre = []; order = order; number = n; chunks = cs; post = bs; blocks-are = refl };
+      run = record { pre = []; options = o; number = n; chunks = cs; post = bs; blocks-are = refl };
       chunks-are = first-is e;
       ahead = refl;
     }
-find (Block.checked order n cs ∷ bs) R Y (x ∷ X) e =
-    subst (λ (x : List (List Bit)). Spot (Block.checked order n cs ∷ bs) R (x ∷ X)) (first-is e)
-    (more-blocks (Block.checked order n cs) bs R X (find bs R Y X (rest-is e)))
+find (Block.checked o n cs ∷ bs) R Y (x ∷ X) e =
+    subst (λ (x : List (List Bit)). Spot (Block.checked o n cs ∷ bs) R (x ∷ X)) (first-is e)
+    (more-blocks (Block.checked o n cs) bs R X (find bs R Y X (rest-is e)))
 find (Block.sizedPayload x s m ∷ bs) R Y X e = more-blocks (Block.sizedPayload x s m) bs R X (find bs R Y X e)
 find (Block.payloadUpTo x n ∷ bs) R Y X e = more-blocks (Block.payloadUpTo x n) bs R X (find bs R Y X e)
 find (Block.payloadToEnd x ∷ bs) R Y X e = more-blocks (Block.payloadToEnd x) bs R X (find bs R Y X e)
@@ -73,13 +73,13 @@ find (Block.optionalNested c v x type ∷ bs) R Y X e = more-blocks (Block.optio
 find (Block.nested type x ∷ bs) R Y X e = more-blocks (Block.nested type x) bs R X (find bs R Y X e)
 find (Block.nestedUpTo id n type x ∷ bs) R Y X e = more-blocks (Block.nestedUpTo id n type x) bs R X (find bs R Y X e)
 
-ordered-at : (o : EndiannessValue) (pre : List Block) (b : Block) (post : List Block) → Ordered o (pre ++ (b ∷ post)) → OrderOf o b
-ordered-at o [] b post h = h .0
-ordered-at o (d ∷ pre) b post h = ordered-at o pre b post (h .1)
+options-at : (o : Options) (pre : List Block) (b : Block) (post : List Block) → AllOptions o (pre ++ (b ∷ post)) → OptionsOf o b
+options-at o [] b post h = h .0
+options-at o (d ∷ pre) b post h = options-at o pre b post (h .1)
 
-order-of : (bs : List Block) (o : EndiannessValue) → Ordered o bs → (r : CheckedRun bs) → r .order ≡ o
-order-of bs o h r =
-    ordered-at o (r .pre) (Block.checked (r .order) (r .number) (r .chunks)) (r .post) (subst (Ordered o) (r .blocks-are) h)
+options-of : (bs : List Block) (o : Options) → AllOptions o bs → (r : CheckedRun bs) → r .options ≡ o
+options-of bs o h r =
+    options-at o (r .pre) (Block.checked (r .options) (r .number) (r .chunks)) (r .post) (subst (AllOptions o) (r .blocks-are) h)
 
 -- ---- a chunk in its run
 
@@ -87,8 +87,9 @@ order-of bs o h r =
 record Within (cs : List Chunk) (F : List Bit) (Y X : List (List Bit)) : Type 0 where
   pub earlier : List Chunk
   pub nr : ℕ
+  pub rawNr : ℕ
   pub later : List Chunk
-  pub chunks-are : cs ≡ earlier ++ (record { nr = nr; fields = F } ∷ later)
+  pub chunks-are : cs ≡ earlier ++ (record { nr = nr; rawNr = rawNr; fields = F } ∷ later)
   pub ahead : fieldsOf earlier ≡ X
   pub behind : fieldsOf later ≡ Y
 
@@ -98,8 +99,9 @@ among (c ∷ cs) F Y [] e =
     record {
       earlier = [];
       nr = c .nr;
+      rawNr = c .rawNr;
       later = cs;
-      chunks-are = ap (λ (fs : List Bit). let k : Chunk = record { nr = c .nr; fields = fs } in k ∷ cs) (first-is e);
+      chunks-are = ap (λ (fs : List Bit). let k : Chunk = record { nr = c .nr; rawNr = c .rawNr; fields = fs } in k ∷ cs) (first-is e);
       ahead = refl;
       behind = rest-is e;
     }
@@ -108,6 +110,7 @@ among (c ∷ cs) F Y (x ∷ X) e =
     record {
       earlier = c ∷ t .earlier;
       nr = t .nr;
+      rawNr = t .rawNr;
       later = t .later;
       chunks-are = ap (λ (l : List Chunk). c ∷ l) (t .chunks-are);
       ahead = cons-is (first-is e) (t .ahead);
@@ -139,10 +142,11 @@ chunk-of bs c h d =
       inRun = t .run;
       earlier = w .earlier;
       nr = w .nr;
+      rawNr = w .rawNr;
       later = w .later;
       chunks-are = w .chunks-are;
       runs-ahead = t .ahead;
       groups-ahead = w .ahead;
       groups-behind = w .behind;
-      order-is = order-of bs (c .options .endianness) (h .order) (t .run);
+      options-are = options-of bs (c .options) (h .options) (t .run);
     }

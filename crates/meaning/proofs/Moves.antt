@@ -9,7 +9,7 @@ use lib.ListN.{length, drop, length-drop}
 use lib.Seq.{drop-drop}
 use Rattle.definitions.specs.Lines.{Expr, Line, Stmt}
 use Rattle.definitions.specs.Blocks.{span, Chunk, chunksLines, checkSize, body}
-use Rattle.definitions.specs.declared.EndiannessValue.{EndiannessValue}
+use Rattle.definitions.specs.declared.Options.{Options}
 use Rattle.meaning.specs.Machine.{State}
 use Rattle.meaning.specs.Runs.{allWidths}
 use Rattle.meaning.proofs.Items.{From, Item, srcOf, lineOf, bytesFrom, bytesOf, total, linesOf, runItems, offsets, run-lines, run-exact}
@@ -60,7 +60,7 @@ items-then (i ∷ is) rest Q σ h k =
     (λ υ f. k υ (moved-on (bytesOf i) (total is) σ τ υ e f)))
 
 -- the lines of whole chunks take their bytes off the front, and the others go on from there
-pub chunks-then : (o : EndiannessValue) (cs : List Chunk) (rest : List Line) (Q : Post) (σ : State) → offsets cs ≤ held σ
+pub chunks-then : (o : Options) (cs : List Chunk) (rest : List Line) (Q : Post) (σ : State) → offsets cs ≤ held σ
     → ((τ : State) → Moved (offsets cs) σ τ → wpLines rest Q τ) → wpLines (chunksLines o cs ++ rest) Q σ
 chunks-then o cs rest Q σ h k =
     subst (λ (ls : List Line). wpLines (ls ++ rest) Q σ) (run-lines o cs)
@@ -69,7 +69,7 @@ chunks-then o cs rest Q σ h k =
 
 -- ---- a whole run
 
-module _ (o : EndiannessValue) (n : ℕ) (cs : List Chunk) (ok : CheckedOk n cs) (σ : State) where
+module _ (o : Options) (n : ℕ) (cs : List Chunk) (ok : CheckedOk n cs) (σ : State) where
   pub run-moved : wpLines (checkSize (Expr.lit n) ∷ chunksLines o cs) (Moved n σ) σ
   run-moved = (
     λ _. tt,
@@ -79,7 +79,7 @@ module _ (o : EndiannessValue) (n : ℕ) (cs : List Chunk) (ok : CheckedOk n cs)
   )
 
 -- lines behind it that are safe stay safe
-pub run-safe : (o : EndiannessValue) (n : ℕ) (cs : List Chunk) (l : List Stmt) → offsets cs ≤ n → Safe l
+pub run-safe : (o : Options) (n : ℕ) (cs : List Chunk) (l : List Stmt) → offsets cs ≤ n → Safe l
     → Safe (body (checkSize (Expr.lit n) ∷ chunksLines o cs) l)
 run-safe o n cs l h s σ j =
     line-up j (checkSize (Expr.lit n)) (body (chunksLines o cs) l) σ (

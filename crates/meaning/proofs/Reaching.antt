@@ -10,11 +10,11 @@ use Rattle.definitions.specs.Lines.{Expr, Line, Stmt}
 use Rattle.definitions.specs.Blocks.{span, Chunk, widths, chunkName, chunkLines, chunksLines, checkSize, body, Block, program}
 use Rattle.definitions.specs.FieldParser.{Setting, kindOf, accepted}
 use Rattle.definitions.specs.Answer.{answer}
-use Rattle.definitions.specs.declared.EndiannessValue.{EndiannessValue}
+use Rattle.definitions.specs.declared.Options.{Options}
 use Rattle.meaning.specs.Machine.{Reply, State, start, Standing, running, fetch, run}
 use Rattle.meaning.specs.Rule.{Octets, widthOf, bitsIn}
 use Rattle.meaning.specs.Runs.{CheckedRun, runLines, behindRun, allWidths, Passes, ComeTo, RunToItsEnd, placed}
-use Rattle.meaning.specs.Places.{BitField, groupOf, ChunkOf, atChunk, linesAhead, source, ownLines, behindField, atField, ruled, Holds, Given}
+use Rattle.meaning.specs.Places.{BitField, groupOf, groupChunk, ChunkOf, atChunk, linesAhead, source, ownLines, behindField, atField, ruled, Holds, Given}
 use Rattle.meaning.proofs.Items.{offsets}
 use Rattle.meaning.proofs.Wellformed.{SparesAll, ChunkOk, ChunksOk, CheckedOk, BlocksOk}
 use Rattle.meaning.proofs.Wp.{Post, wpLines, held}
@@ -28,7 +28,7 @@ use Rattle.meaning.proofs.Values.{taken-is-fetched, placed-widths, at-c
 
 pub checked-ok : (s : Text) (bs : List Block) → answer s ≡ accepted bs → (r : CheckedRun bs) → CheckedOk (r .number) (r .chunks)
 checked-ok s bs e r =
-    block-ok (r .pre) (Block.checked (r .order) (r .number) (r .chunks)) (r .post) (subst BlocksOk (r .blocks-are) (blocks-ok s bs e))
+    block-ok (r .pre) (Block.checked (r .options) (r .number) (r .chunks)) (r .post) (subst BlocksOk (r .blocks-are) (blocks-ok s bs e))
 
 pub number-widths : (n : ℕ) (cs : List Chunk) → CheckedOk n cs → (n ≡ allWidths cs / 8) × (8 * n ≡ allWidths cs)
 number-widths n cs ok =
@@ -39,14 +39,14 @@ number-widths n cs ok =
 pub ended-moved : (bs : List Block) (r : CheckedRun bs) → CheckedOk (r .number) (r .chunks) → (σ τ : State) → Passes (runLines r) (behindRun r) σ τ
     → Moved (r .number) σ τ
 ended-moved bs r ok σ τ p =
-    passes-hold (runLines r) (Moved (r .number) σ) (behindRun r) σ τ (run-moved (r .order) (r .number) (r .chunks) ok σ) p
+    passes-hold (runLines r) (Moved (r .number) σ) (behindRun r) σ τ (run-moved (r .options) (r .number) (r .chunks) ok σ) p
 
 module _ (bs : List Block) (r : CheckedRun bs) (σ υ : State) (k : ℕ) (l : List Stmt) (came : run k σ (program bs) ≡ running υ l) where
   -- a run that has come to the check or further stood before it
   pub stood-before : length l ≤ length (body (runLines r) (behindRun r)) → Through (program bs) (body (runLines r) (behindRun r)) σ k υ l
   stood-before h =
       subst (λ (ds : List Block). Through (program ds) (body (runLines r) (behindRun r)) σ k υ l) (sym (r .blocks-are))
-      (reach (r .pre) (Block.checked (r .order) (r .number) (r .chunks) ∷ r .post) k σ υ l
+      (reach (r .pre) (Block.checked (r .options) (r .number) (r .chunks) ∷ r .post) k σ υ l
       (subst (λ (ds : List Block). run k σ (program ds) ≡ running υ l) (r .blocks-are) came) h)
 
   -- one that has come behind it passed all of it without a `return false`
@@ -55,7 +55,7 @@ module _ (bs : List Block) (r : CheckedRun bs) (σ υ : State) (k : ℕ) (l : Li
       let t = stood-before (omega (arith, body-length (runLines r) (behindRun r))) in
       let p =
       passed (runLines r) (Moved (r .number) (t .state)) (behindRun r) l (t .state) υ (t .more)
-      (run-moved (r .order) (r .number) (r .chunks) ok (t .state)) (t .goes) h in
+      (run-moved (r .options) (r .number) (r .chunks) ok (t .state)) (t .goes) h in
       record {
         steps = t .steps;
         within = omega (arith, t .count);
@@ -80,10 +80,10 @@ come-behind bs r ok σ k m =
 
 -- ---- a bit field's chunk in its run
 
-chunks-split : (o : EndiannessValue) (a b : List Chunk) → chunksLines o (a ++ b) ≡ chunksLines o a ++ chunksLines o b
+chunks-split : (o : Options) (a b : List Chunk) → chunksLines o (a ++ b) ≡ chunksLines o a ++ chunksLines o b
 chunks-split o [] b = refl
 chunks-split o (c ∷ a) b =
-    rw (chunks-split o a b) (sym (append-assoc (chunkLines o (c .nr) (c .fields)) (chunksLines o a) (chunksLines o b)))
+    rw (chunks-split o a b) (sym (append-assoc (chunkLines o c) (chunksLines o a) (chunksLines o b)))
 
 pub chunk-at : (a : List Chunk) (c : Chunk) (b : List Chunk) → ChunksOk (a ++ (c ∷ b)) → ChunkOk c
 chunk-at [] c b h = h .0
@@ -95,17 +95,17 @@ offsets-split (d ∷ a) c b = omega (arith, offsets-split a c b)
 
 module _ (bs : List Block) (c : Setting) (d : BitField c) (h : ChunkOf bs c d) (ok : CheckedOk (h .inRun .number) (h .inRun .chunks)) where
   abbrev its : Chunk
-  its = record { nr = h .nr; fields = placed c 0 (groupOf d) }
+  its = groupChunk c (h .nr) (h .rawNr) (groupOf d)
 
   -- the check and the chunks before its own
   abbrev before : List Line
-  before = checkSize (Expr.lit (h .inRun .number)) ∷ chunksLines (c .options .endianness) (h .earlier)
+  before = checkSize (Expr.lit (h .inRun .number)) ∷ chunksLines (c .options) (h .earlier)
 
   run-split : body (runLines (h .inRun)) (behindRun (h .inRun)) ≡ body before (atChunk bs c d h)
   run-split =
-      ap (λ (o : EndiannessValue). body (checkSize (Expr.lit (h .inRun .number)) ∷ chunksLines o (h .inRun .chunks)) (behindRun (h .inRun))) (h .order-is)
+      ap (λ (o : Options). body (checkSize (Expr.lit (h .inRun .number)) ∷ chunksLines o (h .inRun .chunks)) (behindRun (h .inRun))) (h .options-are)
       ∙ ap (λ (ls : List Line). body (checkSize (Expr.lit (h .inRun .number)) ∷ ls) (behindRun (h .inRun)))
-      (ap (chunksLines (c .options .endianness)) (h .chunks-are) ∙ chunks-split (c .options .endianness) (h .earlier) (its ∷ h .later))
+      (ap (chunksLines (c .options)) (h .chunks-are) ∙ chunks-split (c .options) (h .earlier) (its ∷ h .later))
       ∙ body-append before _ (behindRun (h .inRun))
 
   -- there are bytes enough for its chunk
@@ -129,8 +129,8 @@ module _ (bs : List Block) (c : Setting) (d : BitField c) (h : ChunkOf bs c d) (
         let sum : offsets (h .inRun .chunks) ≡ offsets (h .earlier) + (widths (placed c 0 (groupOf d)) / 8 + offsets (h .later)) =
         ap offsets (h .chunks-are) ∙ offsets-split (h .earlier) its (h .later) in
         let w : widths (placed c 0 (groupOf d)) / 8 ≡ bitsIn c (groupOf d) / 8 = ap (λ (n : ℕ). n / 8) (placed-widths c 0 (groupOf d)) in
-        subst (λ (ls : List Line). wpLines ls (Here σ) σ) (append-nil (chunksLines (c .options .endianness) (h .earlier)))
-        (chunks-then (c .options .endianness) (h .earlier) [] (Here σ) σ (omega (arith, ok .number, sum))
+        subst (λ (ls : List Line). wpLines ls (Here σ) σ) (append-nil (chunksLines (c .options) (h .earlier)))
+        (chunks-then (c .options) (h .earlier) [] (Here σ) σ (omega (arith, ok .number, sum))
         (λ τ e. (
           enough (h .inRun .number) (offsets (h .earlier)) (widths (placed c 0 (groupOf d)) / 8) (offsets (h .later)) (bitsIn c (groupOf d) / 8) (held σ) (held τ)
               (ok .number ∙ sum) w le (ap length (e .0) ∙ length-drop (offsets (h .earlier)) (σ .spans span)),

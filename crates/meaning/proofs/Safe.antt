@@ -102,7 +102,7 @@ module _ (k : ℕ) (l : List Stmt) (s : Safe l) (σ : State) where
       (λ τ v. lines-map (Fills z p σ) (Up k l) (λ υ _. up l s υ k) (fill z p) τ v) (λ τ _. up l s τ k) σ (lacks z p) (padding-fills z p σ h)))
 
 pub block-safe : (b : Block) (l : List Stmt) → BlockOk b → Safe l → Safe (blockLines b l)
-block-safe (Block.checked order n cs) l h s σ j = run-safe order n cs l (omega (arith, h .number)) s σ j
+block-safe (Block.checked o n cs) l h s σ j = run-safe o n cs l (omega (arith, h .number)) s σ j
 block-safe (Block.sizedPayload x v c) l h s σ j = payload-up j l s σ x v c h j (omega arith)
 block-safe (Block.payloadUpTo x t) l h s σ j = upTo-up j l s σ x t h j (omega arith)
 block-safe (Block.payloadToEnd x) l h s σ j = lines-up j (Line.keep x span ∷ Line.clear span ∷ []) l σ (up l s _ j) j (omega arith)

@@ -12,14 +12,15 @@ use borrow.Author.Tests.{le-leb}
 use lib.Pow.{pow-add, pow-mono}
 use Rattle.definitions.specs.Bytes.{Text, pick}
 use Rattle.definitions.specs.Lines.{Src, Before, Line}
-use Rattle.definitions.specs.Blocks.{span, raw, Kind, Bit, widths, getCxxScalarType, readOf, mask, isReserved, shouldSkipValue, chunkName, kindLines, bitsLines, readLines, chunkLines, chunksLines, body, Block}
+use Rattle.definitions.specs.Blocks.{span, Kind, Bit, widths, getCxxScalarType, readOf, mask, rawName, nextRaw, rawsBehind, isReserved, shouldSkipValue, chunkName, kindLines, bitsLines, readLines, chunkLines, chunksLines, body, Block}
 use Rattle.definitions.specs.FieldParser.{Setting, kindOf}
 use Rattle.definitions.specs.declared.EndiannessValue.{EndiannessValue}
+use Rattle.definitions.specs.declared.Raw.{Raw}
 use Rattle.definitions.specs.declared.Field.{Field}
 use Rattle.meaning.specs.Machine.{State, advance, put, littleOf, valueOf, Standing, beyond, fetch}
 use Rattle.meaning.specs.Rule.{lowestFirst, bitsAt, fieldValue, Octets, widthOf, bitsIn}
 use Rattle.meaning.specs.Runs.{behindRun, placed}
-use Rattle.meaning.specs.Places.{BitField, groupOf, ChunkOf, alone, atChunk, linesAhead, source, ownLines, atField, ruled, Holds}
+use Rattle.meaning.specs.Places.{BitField, groupOf, groupChunk, ChunkOf, alone, atChunk, linesAhead, rawsAhead, source, ownLines, atField, ruled, Holds}
 use Rattle.meaning.proofs.Wellformed.{Spares, SparesAll}
 use Rattle.meaning.proofs.Wp.{Post, wpFetch, wpLines, held}
 use Rattle.meaning.proofs.Names.{put-other, put-same}
@@ -50,24 +51,26 @@ taken-is-fetched σ (Src.held x) r = (σ, λ f. refl)
 
 -- ---- a chunk's variable stays
 
-keep-kind : (c : Text) (s m : ℕ) (k : Kind) → Spares c k → (rest : List Line) (Q : Post) (σ : State)
-    → ((τ : State) → τ .vars c ≡ σ .vars c → wpLines rest Q τ) → wpLines (kindLines (Src.bits c s m) k ++ rest) Q σ
-keep-kind c s m (Kind.number x) h rest Q σ f = f _ (put-other (σ .vars) x _ c h)
-keep-kind c s m (Kind.condition x) h rest Q σ f = f _ (put-other (σ .vars) x _ c h)
-keep-kind c s m (Kind.openEnum x T) h rest Q σ f = f _ (put-other (σ .vars) x _ c h)
-keep-kind c s m (Kind.closedEnum x T) h rest Q σ f =
-    let v : ℕ = bitAnd (σ .vars c / 2 ^ s) m in
-    λ l. (tt, f _ (put-other (put (σ .vars) raw v) x (put (σ .vars) raw v raw) c (h .0) ∙ put-other (σ .vars) raw v c (h .1)))
-keep-kind c s m (Kind.fixedScalar n) h rest Q σ f = (tt, λ _. f σ refl)
-keep-kind c s m (Kind.fixedEnum T g) h rest Q σ f = λ l. (tt, f _ refl)
-keep-kind c s m Kind.reserved h rest Q σ f = f σ refl
+module _ (w : Raw) (c : Text) where
+  keep-kind : (n s m : ℕ) (k : Kind) → Spares c k → (rest : List Line) (Q : Post) (σ : State)
+      → ((τ : State) → τ .vars c ≡ σ .vars c → wpLines rest Q τ) → wpLines (kindLines (rawName w n) (Src.bits c s m) k ++ rest) Q σ
+  keep-kind n s m (Kind.number x) h rest Q σ f = f _ (put-other (σ .vars) x _ c h)
+  keep-kind n s m (Kind.condition x) h rest Q σ f = f _ (put-other (σ .vars) x _ c h)
+  keep-kind n s m (Kind.openEnum x T) h rest Q σ f = f _ (put-other (σ .vars) x _ c h)
+  keep-kind n s m (Kind.closedEnum x T) h rest Q σ f =
+      let r : Text = rawName w n in
+      let v : ℕ = bitAnd (σ .vars c / 2 ^ s) m in
+      λ l. (tt, f _ (put-other (put (σ .vars) r v) x (put (σ .vars) r v r) c (h .0) ∙ put-other (σ .vars) r v c (h .1 w n)))
+  keep-kind n s m (Kind.fixedScalar k) h rest Q σ f = (tt, λ _. f σ refl)
+  keep-kind n s m (Kind.fixedEnum T g) h rest Q σ f = λ l. (tt, f _ refl)
+  keep-kind n s m Kind.reserved h rest Q σ f = f σ refl
 
-keep-bits : (c : Text) (bs : List Bit) → SparesAll c bs → (Q : Post) (σ : State)
-    → ((τ : State) → τ .vars c ≡ σ .vars c → Q τ) → wpLines (bitsLines c bs) Q σ
-keep-bits c [] h Q σ f = f σ refl
-keep-bits c (b ∷ bs) h Q σ f =
-    keep-kind c (b .shift) (mask (b .width)) (b .kind) (h .0) (bitsLines c bs) Q σ
-    (λ τ e. keep-bits c bs (h .1) Q τ (λ υ g. f υ (g ∙ e)))
+  keep-bits : (n : ℕ) (bs : List Bit) → SparesAll c bs → (Q : Post) (σ : State)
+      → ((τ : State) → τ .vars c ≡ σ .vars c → Q τ) → wpLines (bitsLines w c n bs) Q σ
+  keep-bits n [] h Q σ f = f σ refl
+  keep-bits n (b ∷ bs) h Q σ f =
+      keep-kind n (b .shift) (mask (b .width)) (b .kind) (h .0) (bitsLines w c (nextRaw n (b .kind)) bs) Q σ
+      (λ τ e. keep-bits (nextRaw n (b .kind)) bs (h .1) Q τ (λ υ g. f υ (g ∙ e)))
 
 -- ---- octets
 
@@ -103,9 +106,11 @@ whole-bits o os w h k =
 
 -- ---- where a field stands
 
-bits-split : (x : Text) (a b : List Bit) → bitsLines x (a ++ b) ≡ bitsLines x a ++ bitsLines x b
-bits-split x [] b = refl
-bits-split x (d ∷ a) b = rw (bits-split x a b) (sym (append-assoc (kindLines _ (d .kind)) (bitsLines x a) (bitsLines x b)))
+bits-split : (w : Raw) (x : Text) (n : ℕ) (a b : List Bit) → bitsLines w x n (a ++ b) ≡ bitsLines w x n a ++ bitsLines w x (rawsBehind n a) b
+bits-split w x n [] b = refl
+bits-split w x n (d ∷ a) b =
+    let m : ℕ = nextRaw n (d .kind) in
+    rw (bits-split w x m a b) (sym (append-assoc (kindLines _ _ (d .kind)) (bitsLines w x m a) (bitsLines w x (rawsBehind m a) b)))
 
 alone-cons : (b : Field) (bs after : List Field) → alone (b ∷ bs) after ≡ false
 alone-cons b bs [] = refl
@@ -134,7 +139,7 @@ spares-front : (x : Text) (a b : List Bit) → SparesAll x (a ++ b) → SparesAl
 spares-front x [] b h = tt
 spares-front x (d ∷ a) b h = (h .0, spares-front x a b (h .1))
 
-module _ (c : Setting) (nr w : ℕ) (f : Field) where
+module _ (c : Setting) (nr rawNr w : ℕ) (f : Field) where
   abbrev x : Text
   x = chunkName nr
 
@@ -145,27 +150,40 @@ module _ (c : Setting) (nr w : ℕ) (f : Field) where
   abbrev reads : Line
   reads = Line.set (Before.chunk (getCxxScalarType w)) x (readOf span (c .options .endianness) w)
 
+  -- the lines of some of its fields, behind so many tested enums
+  abbrev heldBits : ℕ → List Bit → List Line
+  heldBits n bits = bitsLines (c .options .raw) x n bits
+
   abbrev Ahead : List Field → List Field → List Line
-  Ahead before after = pick (alone before after) [] (reads ∷ bitsLines x (placed c 0 before))
+  Ahead before after = pick (alone before after) [] (reads ∷ heldBits rawNr (placed c 0 before))
+
+  -- so many tested enums are ahead of the field
+  abbrev raws : List Field → ℕ
+  raws before = rawsBehind rawNr (placed c 0 before)
 
   abbrev From : List Field → List Field → Src
   From before after = pick (alone before after) (readOf span (c .options .endianness) w) (Src.bits x (bitsIn c before) (mask (widthOf c f)))
 
+  abbrev Own : List Field → List Field → List Line
+  Own before after = kindLines (rawName (c .options .raw) (raws before)) (From before after) (kindOf c (f .desc))
+
   abbrev Rest : List Field → List Field → List Line
-  Rest before after = bitsLines x (placed c (bitsIn c before + widthOf c f) after)
+  Rest before after = heldBits (nextRaw (raws before) (kindOf c (f .desc))) (placed c (bitsIn c before + widthOf c f) after)
 
   own-split : (before after : List Field)
-      → readLines (c .options .endianness) nr w (placed c 0 before ++ (bitBehind before ∷ placed c (bitsIn c before + widthOf c f) after))
-      ≡ Ahead before after ++ (kindLines (From before after) (kindOf c (f .desc)) ++ Rest before after)
-  own-split [] [] = sym (append-nil (kindLines (readOf span (c .options .endianness) w) (kindOf c (f .desc))))
+      → readLines (c .options) nr rawNr w (placed c 0 before ++ (bitBehind before ∷ placed c (bitsIn c before + widthOf c f) after))
+      ≡ Ahead before after ++ (Own before after ++ Rest before after)
+  own-split [] [] = sym (append-nil (Own [] []))
   own-split [] (d ∷ after) = refl
   own-split (b ∷ []) after =
       rw (alone-cons b [] after)
-      (ap (λ (ls : List Line). reads ∷ ls) (bits-split x (placed c 0 (b ∷ [])) (bitBehind (b ∷ []) ∷ placed c (bitsIn c (b ∷ []) + widthOf c f) after)))
+      (ap (λ (ls : List Line). reads ∷ ls)
+      (bits-split (c .options .raw) x rawNr (placed c 0 (b ∷ [])) (bitBehind (b ∷ []) ∷ placed c (bitsIn c (b ∷ []) + widthOf c f) after)))
   own-split (b ∷ d ∷ before) after =
       rw (alone-cons b (d ∷ before) after)
       (ap (λ (ls : List Line). reads ∷ ls)
-      (bits-split x (placed c 0 (b ∷ d ∷ before)) (bitBehind (b ∷ d ∷ before) ∷ placed c (bitsIn c (b ∷ d ∷ before) + widthOf c f) after)))
+      (bits-split (c .options .raw) x rawNr (placed c 0 (b ∷ d ∷ before))
+      (bitBehind (b ∷ d ∷ before) ∷ placed c (bitsIn c (b ∷ d ∷ before) + widthOf c f) after)))
 
   -- the value: where os are read
   module _ (τ : State) (os : List ℕ) (read : take (w / 8) (τ .spans span) ≡ os) (octets : Octets os) (room : w / 8 ≤ held τ) where
@@ -173,10 +191,10 @@ module _ (c : Setting) (nr w : ℕ) (f : Field) where
     Right before v ρ = (taken ρ v ≡ fieldValue (c .options .endianness) os (bitsIn c before) (widthOf c f)) × Room ρ v
 
     several : (before : List Field) → SparesAll x (placed c 0 before)
-        → wpLines (reads ∷ bitsLines x (placed c 0 before)) (Right before (Src.bits x (bitsIn c before) (mask (widthOf c f)))) τ
+        → wpLines (reads ∷ heldBits rawNr (placed c 0 before)) (Right before (Src.bits x (bitsIn c before) (mask (widthOf c f)))) τ
     several before sp = (
       room,
-      keep-bits x (placed c 0 before) sp _ _
+      keep-bits (c .options .raw) x rawNr (placed c 0 before) sp _ _
           (λ ρ e. (
             and-mask (ρ .vars x / 2 ^ bitsIn c before) (widthOf c f)
                 ∙ ap (λ (v : ℕ). v / 2 ^ bitsIn c before % 2 ^ widthOf c f) (e ∙ put-same (τ .vars) x _ ∙ ap (valueOf (c .options .endianness)) read)
@@ -206,16 +224,17 @@ fetched τ (Src.held x) K r k = k τ
 small-kept : (v w : ℕ) → v < 2 ^ w → w ≤ 8 → v % 256 ≡ v
 small-kept v w h k = mod-eq-of-lt (omega (arith, h, pow-mono {i = w} {j = 8} k))
 
-kind-holds : (τ : State) (v : Src) (k : Kind) (w m : ℕ) → m < 2 ^ w → Room τ v → taken τ v ≡ m → wpLines (kindLines v k) (λ ρ. Holds ρ k w m) τ
-kind-holds τ v (Kind.number x) w m lt r e = fetched τ v _ r (λ ρ. put-same (ρ .vars) x _ ∙ e)
-kind-holds τ v (Kind.condition x) w m lt r e =
-    fetched τ v _ r (λ ρ le. put-same (ρ .vars) x _ ∙ ap (λ (n : ℕ). n % 256) e ∙ small-kept m w lt le)
-kind-holds τ v (Kind.openEnum x T) w m lt r e = fetched τ v _ r (λ ρ. put-same (ρ .vars) x _ ∙ e)
-kind-holds τ v (Kind.closedEnum x T) w m lt r e =
-    fetched τ v _ r (λ ρ l. (tt, put-same (put (ρ .vars) raw (taken τ v)) x _ ∙ put-same (ρ .vars) raw (taken τ v) ∙ e))
-kind-holds τ v (Kind.fixedScalar n) w m lt r e = fetched τ v _ r (λ ρ. (tt, λ f. sym e ∙ f))
-kind-holds τ v (Kind.fixedEnum T g) w m lt r e = fetched τ v _ r (λ ρ l. (tt, tt))
-kind-holds τ v Kind.reserved w m lt r e = tt
+kind-holds : (r : Text) (τ : State) (v : Src) (k : Kind) (w m : ℕ) → m < 2 ^ w → Room τ v → taken τ v ≡ m
+    → wpLines (kindLines r v k) (λ ρ. Holds ρ k w m) τ
+kind-holds r τ v (Kind.number x) w m lt h e = fetched τ v _ h (λ ρ. put-same (ρ .vars) x _ ∙ e)
+kind-holds r τ v (Kind.condition x) w m lt h e =
+    fetched τ v _ h (λ ρ le. put-same (ρ .vars) x _ ∙ ap (λ (n : ℕ). n % 256) e ∙ small-kept m w lt le)
+kind-holds r τ v (Kind.openEnum x T) w m lt h e = fetched τ v _ h (λ ρ. put-same (ρ .vars) x _ ∙ e)
+kind-holds r τ v (Kind.closedEnum x T) w m lt h e =
+    fetched τ v _ h (λ ρ l. (tt, put-same (put (ρ .vars) r (taken τ v)) x _ ∙ put-same (ρ .vars) r (taken τ v) ∙ e))
+kind-holds r τ v (Kind.fixedScalar n) w m lt h e = fetched τ v _ h (λ ρ. (tt, λ f. sym e ∙ f))
+kind-holds r τ v (Kind.fixedEnum T g) w m lt h e = fetched τ v _ h (λ ρ l. (tt, tt))
+kind-holds r τ v Kind.reserved w m lt h e = tt
 
 -- so many bits are a number below 2 ^ width
 bit-lt : (os : List ℕ) (j : ℕ) → getD os (j / 8) 0 / 2 ^ (j % 8) % 2 < 2
@@ -239,18 +258,22 @@ module _ (bs : List Block) (c : Setting) (d : BitField c) (h : ChunkOf bs c d) w
       placed-at c 0 (d .before) (d .field ∷ d .after)
       ∙ ap (λ (n : ℕ). placed c 0 (d .before) ++ placed c n (d .field ∷ d .after)) (zero-add (bitsIn c (d .before)))
 
+  abbrev read : ℕ → List Bit → List Line
+  read n bits = readLines (c .options) (h .nr) (h .rawNr) n bits
+
   -- the lines of its chunk: those ahead of it, its own, and those behind
-  own-lines : chunkLines (c .options .endianness) (h .nr) chunkFields ≡ linesAhead bs c d h ++ (ownLines bs c d h ++ Rest c (h .nr) (bitsIn c (groupOf d)) (d .field) (d .before) (d .after))
+  own-lines : chunkLines (c .options) (groupChunk c (h .nr) (h .rawNr) (groupOf d))
+      ≡ linesAhead bs c d h ++ (ownLines bs c d h ++ Rest c (h .nr) (h .rawNr) (bitsIn c (groupOf d)) (d .field) (d .before) (d .after))
   own-lines =
-      ap (λ (b : Bool). pick b (Line.reserved span (widths chunkFields / 8) ∷ []) (readLines (c .options .endianness) (h .nr) (widths chunkFields) chunkFields))
+      ap (λ (b : Bool). pick b (Line.reserved span (widths chunkFields / 8) ∷ []) (read (widths chunkFields) chunkFields))
       (ap shouldSkipValue fields-are ∙ some-value (placed c 0 (d .before)) _ _ (d .has-value))
-      ∙ ap (λ (n : ℕ). readLines (c .options .endianness) (h .nr) n chunkFields) (placed-widths c 0 (groupOf d))
-      ∙ ap (readLines (c .options .endianness) (h .nr) (bitsIn c (groupOf d))) fields-are
-      ∙ own-split c (h .nr) (bitsIn c (groupOf d)) (d .field) (d .before) (d .after)
+      ∙ ap (λ (n : ℕ). read n chunkFields) (placed-widths c 0 (groupOf d))
+      ∙ ap (read (bitsIn c (groupOf d))) fields-are
+      ∙ own-split c (h .nr) (h .rawNr) (bitsIn c (groupOf d)) (d .field) (d .before) (d .after)
 
   pub at-chunk : atChunk bs c d h ≡ body (linesAhead bs c d h) (atField bs c d h)
   at-chunk =
-      ap (λ (ls : List Line). body (ls ++ chunksLines (c .options .endianness) (h .later)) (behindRun (h .inRun))) own-lines
+      ap (λ (ls : List Line). body (ls ++ chunksLines (c .options) (h .later)) (behindRun (h .inRun))) own-lines
       ∙ ap (λ (ls : List Line). body ls (behindRun (h .inRun))) (regroup (linesAhead bs c d h) (ownLines bs c d h) _ _)
       ∙ body-append (linesAhead bs c d h) _ (behindRun (h .inRun))
       ∙ ap (body (linesAhead bs c d h)) (body-append (ownLines bs c d h) _ (behindRun (h .inRun)))
@@ -265,11 +288,14 @@ module _ (bs : List Block) (c : Setting) (d : BitField c) (h : ChunkOf bs c d) w
 
     pub ahead-taken : wpLines (linesAhead bs c d h) Taken found
     ahead-taken =
-        own-value c (h .nr) (bitsIn c (groupOf d)) (d .field) found (take (bitsIn c (groupOf d) / 8) (found .spans span)) refl
+        own-value c (h .nr) (h .rawNr) (bitsIn c (groupOf d)) (d .field) found (take (bitsIn c (groupOf d) / 8) (found .spans span)) refl
         (octets-take (bitsIn c (groupOf d) / 8) (found .spans span) octets) room (d .before) (d .after) refl
         (spares-front (chunkName (h .nr)) (placed c 0 (d .before)) _ (subst (SparesAll (chunkName (h .nr))) fields-are spares))
 
-    pub own-holds : (τ : State) → Taken τ → wpLines (ownLines bs c d h) (λ ρ. Holds ρ (kindOf c (d .field .desc)) (widthOf c (d .field)) (ruled c d (found .spans span))) τ
+    pub own-holds : (τ : State) → Taken τ
+        → wpLines (ownLines bs c d h) (λ ρ. Holds ρ (kindOf c (d .field .desc)) (widthOf c (d .field)) (ruled c d (found .spans span))) τ
     own-holds τ t =
-        kind-holds τ (source bs c d h) (kindOf c (d .field .desc)) (widthOf c (d .field)) (ruled c d (found .spans span))
-        (bits-lt (lowestFirst (c .options .endianness) (take (bitsIn c (groupOf d) / 8) (found .spans span))) (bitsIn c (d .before)) (widthOf c (d .field))) (t .1) (t .0)
+        kind-holds (rawName (c .options .raw) (rawsAhead bs c d h)) τ (source bs c d h) (kindOf c (d .field .desc)) (widthOf c (d .field))
+        (ruled c d (found .spans span))
+        (bits-lt (lowestFirst (c .options .endianness) (take (bitsIn c (groupOf d) / 8) (found .spans span))) (bitsIn c (d .before)) (widthOf c (d .field)))
+        (t .1) (t .0)

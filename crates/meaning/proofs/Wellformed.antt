@@ -6,9 +6,10 @@ use mathlib.Core.Bool.{false}
 use mathlib.Core.List.{List, [], _∷_}
 use Prim.Native.Nat.{ℕ, _+_, _/_, _%_, _≤_, _<_}
 use Rattle.definitions.specs.Bytes.{Text, same}
-use Rattle.definitions.specs.Blocks.{span, raw, Kind, Bit, Chunk, widths, chunkName, Elem, Block}
+use Rattle.definitions.specs.Blocks.{span, rawName, Kind, Bit, Chunk, widths, chunkName, Elem, Block}
 use Rattle.definitions.specs.declared.ElementSize.{ElementSize}
-use Rattle.definitions.specs.declared.EndiannessValue.{EndiannessValue}
+use Rattle.definitions.specs.declared.Raw.{Raw}
+use Rattle.definitions.specs.declared.Options.{Options}
 use Rattle.meaning.specs.Runs.{blockRun}
 use Rattle.meaning.proofs.Items.{offsets}
 
@@ -22,12 +23,12 @@ reads (Elem.parsed T) = 0
 abbrev pub Apart : Text → Text → Type 0
 Apart a b = same a b ≡ false
 
--- no line of the field sets the variable c
+-- no line of the field sets the variable c, whatever a tested enum is held in
 abbrev pub Spares : Text → Kind → Type 0
 Spares c (Kind.number x) = Apart x c
 Spares c (Kind.condition x) = Apart x c
 Spares c (Kind.openEnum x T) = Apart x c
-Spares c (Kind.closedEnum x T) = Apart x c × Apart raw c
+Spares c (Kind.closedEnum x T) = Apart x c × ((m : Raw) (k : ℕ) → Apart (rawName m k) c)
 Spares c (Kind.fixedScalar n) = Unit {0}
 Spares c (Kind.fixedEnum T g) = Unit {0}
 Spares c Kind.reserved = Unit {0}
@@ -62,7 +63,7 @@ ElemOk ElementSize.Dynamic E = Unit {0}
 ElemOk ElementSize.Unknown E = Unit {0}
 
 abbrev pub BlockOk : Block → Type 0
-BlockOk (Block.checked order n cs) = CheckedOk n cs
+BlockOk (Block.checked o n cs) = CheckedOk n cs
 BlockOk (Block.sizedPayload x s c) = Apart x span
 BlockOk (Block.payloadUpTo x t) = Apart x span
 BlockOk (Block.payloadToEnd x) = Apart x span
@@ -79,27 +80,27 @@ abbrev pub BlocksOk : List Block → Type 0
 BlocksOk [] = Unit {0}
 BlocksOk (b ∷ bs) = BlockOk b × BlocksOk bs
 
--- ---- how the blocks read
+-- ---- what the blocks are lowered with
 
--- every checked run reads in this order
-abbrev pub OrderOf : EndiannessValue → Block → Type 0
-OrderOf o (Block.checked order n cs) = order ≡ o
-OrderOf o (Block.sizedPayload x s m) = Unit {0}
-OrderOf o (Block.payloadUpTo x n) = Unit {0}
-OrderOf o (Block.payloadToEnd x) = Unit {0}
-OrderOf o (Block.array m w a) = Unit {0}
-OrderOf o (Block.paddedArray p m w a) = Unit {0}
-OrderOf o (Block.optionalScalar c v order w x) = Unit {0}
-OrderOf o (Block.optionalOpen c v order w x type) = Unit {0}
-OrderOf o (Block.optionalClosed c v order w x type) = Unit {0}
-OrderOf o (Block.optionalNested c v x type) = Unit {0}
-OrderOf o (Block.nested type x) = Unit {0}
-OrderOf o (Block.nestedUpTo id n type x) = Unit {0}
+-- every checked run has these choices of the head
+abbrev pub OptionsOf : Options → Block → Type 0
+OptionsOf o (Block.checked options n cs) = options ≡ o
+OptionsOf o (Block.sizedPayload x s m) = Unit {0}
+OptionsOf o (Block.payloadUpTo x n) = Unit {0}
+OptionsOf o (Block.payloadToEnd x) = Unit {0}
+OptionsOf o (Block.array m w a) = Unit {0}
+OptionsOf o (Block.paddedArray p m w a) = Unit {0}
+OptionsOf o (Block.optionalScalar c v order w x) = Unit {0}
+OptionsOf o (Block.optionalOpen c v order w x type) = Unit {0}
+OptionsOf o (Block.optionalClosed c v order w x type) = Unit {0}
+OptionsOf o (Block.optionalNested c v x type) = Unit {0}
+OptionsOf o (Block.nested type x) = Unit {0}
+OptionsOf o (Block.nestedUpTo id n type x) = Unit {0}
 
-abbrev pub Ordered : EndiannessValue → List Block → Type 0
-Ordered o [] = Unit {0}
-Ordered o (b ∷ bs) = OrderOf o b × Ordered o bs
+abbrev pub AllOptions : Options → List Block → Type 0
+AllOptions o [] = Unit {0}
+AllOptions o (b ∷ bs) = OptionsOf o b × AllOptions o bs
 
 -- no checked run
 abbrev pub Plain : Block → Type 0
-Plain b = (blockRun b ≡ []) × ((o : EndiannessValue) → OrderOf o b)
+Plain b = (blockRun b ≡ []) × ((o : Options) → OptionsOf o b)

@@ -75,8 +75,8 @@ deeper : (s : Stmt) (l all : List Stmt) → Ahead (s ∷ l) all → Ahead l all
 deeper s l all h = (h .0 ++ (s ∷ []), h .1 ∙ sym (append-assoc (h .0) (s ∷ []) l))
 
 block-ahead : (b : Block) (l : List Stmt) → Ahead l (blockLines b l)
-block-ahead (Block.checked order n cs) l =
-    (body (checkSize (Expr.lit n) ∷ chunksLines order cs) [], body-before (checkSize (Expr.lit n) ∷ chunksLines order cs) l)
+block-ahead (Block.checked o n cs) l =
+    (body (checkSize (Expr.lit n) ∷ chunksLines o cs) [], body-before (checkSize (Expr.lit n) ∷ chunksLines o cs) l)
 block-ahead (Block.sizedPayload x s m) l = (blockLines (Block.sizedPayload x s m) [], refl)
 block-ahead (Block.payloadUpTo x n) l = (blockLines (Block.payloadUpTo x n) [], refl)
 block-ahead (Block.payloadToEnd x) l = (blockLines (Block.payloadToEnd x) [], refl)

@@ -7,7 +7,7 @@ use Prim.Native.Nat.{ℕ, _+_, _/_, _≤_}
 use lib.ListN.{take, drop}
 use Rattle.definitions.specs.Bytes.{pick}
 use Rattle.definitions.specs.Lines.{Src, Before, Line, Stmt}
-use Rattle.definitions.specs.Blocks.{span, Kind, Chunk, getCxxScalarType, readOf, mask, isReserved, chunkName, kindLines, bitsLines, chunkLines, chunksLines, body, Block, program}
+use Rattle.definitions.specs.Blocks.{span, Kind, Chunk, getCxxScalarType, readOf, mask, rawName, nextRaw, rawsBehind, isReserved, chunkName, kindLines, bitsLines, chunkLines, chunksLines, body, Block, program}
 use Rattle.definitions.specs.FieldParser.{Setting, kindOf}
 use Rattle.definitions.specs.declared.Field.{Field}
 use Rattle.meaning.specs.Machine.{State, Standing, running, fetch, run}
@@ -30,18 +30,23 @@ pub record BitField (c : Setting) : Type 0 where
 abbrev pub groupOf : {c : Setting} → BitField c → List Field
 groupOf d = d .before ++ (d .field ∷ d .after)
 
+-- the chunk of a group, by its numbers
+abbrev pub groupChunk : Setting → ℕ → ℕ → List Field → Chunk
+groupChunk c nr rawNr g = record { nr = nr; rawNr = rawNr; fields = placed c 0 g }
+
 -- its chunk: that of its group, in the checked run that is its run: as many runs are ahead of it, with the same chunks, and its other chunks are those of
 -- the groups before and after
 pub record ChunkOf (bs : List Block) (c : Setting) (d : BitField c) : Type 0 where
   pub inRun : CheckedRun bs
   pub earlier : List Chunk
   pub nr : ℕ
+  pub rawNr : ℕ
   pub later : List Chunk
-  pub chunks-are : inRun .chunks ≡ earlier ++ (record { nr = nr; fields = placed c 0 (groupOf d) } ∷ later)
+  pub chunks-are : inRun .chunks ≡ earlier ++ (groupChunk c nr rawNr (groupOf d) ∷ later)
   pub runs-ahead : runsIn (inRun .pre) ≡ placedRuns c (d .runsBefore)
   pub groups-ahead : fieldsOf earlier ≡ placedRun c (d .groupsBefore)
   pub groups-behind : fieldsOf later ≡ placedRun c (d .groupsAfter)
-  pub order-is : inRun .order ≡ c .options .endianness
+  pub options-are : inRun .options ≡ c .options
 
 -- the only field of its group
 abbrev pub alone : List Field → List Field → Bool
@@ -54,14 +59,18 @@ module _ (bs : List Block) (c : Setting) (d : BitField c) (h : ChunkOf bs c d) w
   -- the lines of its chunk and all that follow
   abbrev pub atChunk : List Stmt
   atChunk =
-      body (chunkLines (c .options .endianness) (h .nr) (placed c 0 (groupOf d)) ++ chunksLines (c .options .endianness) (h .later)) (behindRun (h .inRun))
+      body (chunkLines (c .options) (groupChunk c (h .nr) (h .rawNr) (groupOf d)) ++ chunksLines (c .options) (h .later)) (behindRun (h .inRun))
 
   -- those ahead of its own: the read of its chunk, and its group's fields before it
   abbrev pub linesAhead : List Line
   linesAhead =
       pick (alone (d .before) (d .after)) []
       (Line.set (Before.chunk (getCxxScalarType (bitsIn c (groupOf d)))) (chunkName (h .nr)) (readOf span (c .options .endianness) (bitsIn c (groupOf d)))
-      ∷ bitsLines (chunkName (h .nr)) (placed c 0 (d .before)))
+      ∷ bitsLines (c .options .raw) (chunkName (h .nr)) (h .rawNr) (placed c 0 (d .before)))
+
+  -- how many tested enums are ahead of it: those that its chunk's number counts, and those of its group
+  abbrev pub rawsAhead : ℕ
+  rawsAhead = rawsBehind (h .rawNr) (placed c 0 (d .before))
 
   -- where its first line takes its value from: alone it is read, else cut out of its chunk's variable
   abbrev pub source : Src
@@ -71,13 +80,15 @@ module _ (bs : List Block) (c : Setting) (d : BitField c) (h : ChunkOf bs c d) w
 
   -- its own lines: what is done with that value
   abbrev pub ownLines : List Line
-  ownLines = kindLines source (kindOf c (d .field .desc))
+  ownLines = kindLines (rawName (c .options .raw) rawsAhead) source (kindOf c (d .field .desc))
 
   -- the lines behind its own, and all that follow
   abbrev pub behindField : List Stmt
   behindField =
       body
-      (bitsLines (chunkName (h .nr)) (placed c (bitsIn c (d .before) + widthOf c (d .field)) (d .after)) ++ chunksLines (c .options .endianness) (h .later))
+      (bitsLines (c .options .raw) (chunkName (h .nr)) (nextRaw rawsAhead (kindOf c (d .field .desc)))
+      (placed c (bitsIn c (d .before) + widthOf c (d .field)) (d .after))
+      ++ chunksLines (c .options) (h .later))
       (behindRun (h .inRun))
 
   -- its own lines and all that follow

@@ -15,7 +15,7 @@ use Rattle.definitions.specs.Lines.{Expr, Line, Stmt}
 use Rattle.definitions.specs.Blocks.{checkSize, Bit, Chunk, widths, chunksLines, body, Block, program}
 use Rattle.definitions.specs.FieldParser.{Setting, kindOf}
 use Rattle.definitions.specs.Answer.{settingOf}
-use Rattle.definitions.specs.declared.EndiannessValue.{EndiannessValue}
+use Rattle.definitions.specs.declared.Options.{Options}
 use Rattle.definitions.specs.declared.Head.{Head}
 use Rattle.definitions.specs.declared.Field.{Field}
 use Rattle.meaning.specs.Machine.{State, running, excusing, exec, run}
@@ -25,16 +25,17 @@ use Rattle.meaning.specs.Rule.{widthOf}
 
 pub record CheckedRun (bs : List Block) : Type 0 where
   pub pre : List Block
-  pub order : EndiannessValue
+  -- the head's choices
+  pub options : Options
   -- the checked number
   pub number : ℕ
   pub chunks : List Chunk
   pub post : List Block
-  pub blocks-are : bs ≡ pre ++ (Block.checked order number chunks ∷ post)
+  pub blocks-are : bs ≡ pre ++ (Block.checked options number chunks ∷ post)
 
 -- its lines
 abbrev pub runLines : {bs : List Block} → CheckedRun bs → List Line
-runLines r = checkSize (Expr.lit (r .number)) ∷ chunksLines (r .order) (r .chunks)
+runLines r = checkSize (Expr.lit (r .number)) ∷ chunksLines (r .options) (r .chunks)
 
 -- the lines behind it
 abbrev pub behindRun : {bs : List Block} → CheckedRun bs → List Stmt
@@ -79,7 +80,7 @@ fieldsOf (c ∷ cs) = c .fields ∷ fieldsOf cs
 
 -- of a block: only a checked one is a run
 abbrev pub blockRun : Block → List (List (List Bit))
-blockRun (Block.checked order n cs) = fieldsOf cs ∷ []
+blockRun (Block.checked o n cs) = fieldsOf cs ∷ []
 blockRun (Block.sizedPayload x s m) = []
 blockRun (Block.payloadUpTo x n) = []
 blockRun (Block.payloadToEnd x) = []

@@ -43,14 +43,14 @@ module _ (o : Options) (s : Text) (plan : List PlanAt) (n : ℕ) (out₀ : Text)
 
   -- all that the plan tells
   abbrev whole : (Part → ℕ) → Told
-  whole bits = tell (o .endianness) fresh (plansFrom o s bits plan 0 n)
+  whole bits = tell o fresh (plansFrom o s bits plan 0 n)
 
   all-left : n ≡ n - 0
   all-left = omega arith
 
   -- from entry k on
   abbrev left : (Part → ℕ) → ℕ → State → Chunk → List Held → Told
-  left bits k t c kinds = tell (o .endianness) (seen t (fieldsIn o s plan n c kinds)) (rest bits k)
+  left bits k t c kinds = tell o (seen t (fieldsIn o s plan n c kinds)) (rest bits k)
 
   -- before entry k: what is written, and then what is left
   pub record Goes (bits : Part → ℕ) (out : Text) (p k : ℕ) (t : State) (c : Chunk) (kinds : List Held) : Type 0 where
@@ -75,11 +75,12 @@ module _ (o : Options) (s : Text) (plan : List PlanAt) (n : ℕ) (out₀ : Text)
         tells = λ bits. record {
           lines = [];
           wrote = still out₀ at room;
-          goes = ap (λ (m : ℕ). tell (o .endianness) fresh (plansFrom o s bits plan 0 m)) all-left;
+          goes = ap (λ (m : ℕ). tell o fresh (plansFrom o s bits plan 0 m)) all-left;
         };
         going = record {
           few = omega arith;
           numbers = omega arith;
+          tested = omega arith;
           sum = refl;
           fits = omega (arith, z .1 .sum, ap (widthsAt plan 0) all-left);
           shifts-long = length-replicate {A = ℕ} 64 0;
@@ -130,7 +131,7 @@ module _ (o : Options) (s : Text) (plan : List PlanAt) (n : ℕ) (out₀ : Text)
     unfolding tell
     run-done h bits =
         (finished bits (codeVerdict (t .pending) (c .len))
-        (ap (tell (o .endianness) (seen t (fieldsIn o s plan n c kinds))) (plans-end o s bits plan n k h)
+        (ap (tell o (seen t (fieldsIn o s plan n c kinds))) (plans-end o s bits plan n k h)
         ∙ ap (λ (v : Verdict). record { verdict = v; lines = [] })
         (sym (code-flushes (t .pending) (fieldsIn o s plan n c kinds) (c .len) (bits-length (o .arrays) s (text "payload") c kinds (c .len))))))
 
@@ -138,16 +139,16 @@ module _ (o : Options) (s : Text) (plan : List PlanAt) (n : ℕ) (out₀ : Text)
 
     module _ (h : k < n) {q : Step} {d : Chunk} {held : List Held} {next : Text} (u : Turned o s plan n k t c kinds out p q d held next) where
       abbrev goes-by : (Part → ℕ) → Advance
-      goes-by bits = advance (o .endianness) (seen t (fieldsIn o s plan n c kinds)) (plannedIn o s bits (entryAt plan k)) (runAt plan (k + 1) (n - (k + 1)))
+      goes-by bits = advance o (seen t (fieldsIn o s plan n c kinds)) (plannedIn o s bits (entryAt plan k)) (runAt plan (k + 1) (n - (k + 1)))
 
       turn : (bits : Part → ℕ) → left bits k t c kinds
-          ≡ joined (goes-by bits .verdict) (goes-by bits .lines) (tell (o .endianness) (goes-by bits .after) (rest bits (k + 1)))
+          ≡ joined (goes-by bits .verdict) (goes-by bits .lines) (tell o (goes-by bits .after) (rest bits (k + 1)))
       unfolding tell
       turn bits =
-          ap (tell (o .endianness) (seen t (fieldsIn o s plan n c kinds))) (plans-step o s bits plan n k h)
+          ap (tell o (seen t (fieldsIn o s plan n c kinds))) (plans-step o s bits plan n k h)
           ∙ ap (λ (b : ℕ).
-          let a : Advance = advance (o .endianness) (seen t (fieldsIn o s plan n c kinds)) (plannedIn o s bits (entryAt plan k)) b in
-          joined (a .verdict) (a .lines) (tell (o .endianness) (a .after) (rest bits (k + 1))))
+          let a : Advance = advance o (seen t (fieldsIn o s plan n c kinds)) (plannedIn o s bits (entryAt plan k)) b in
+          joined (a .verdict) (a .lines) (tell o (a .after) (rest bits (k + 1))))
           (ahead-is o s bits plan (k + 1) (n - (k + 1)))
 
       run-kept : length next ≡ length out₀
@@ -158,7 +159,7 @@ module _ (o : Options) (s : Text) (plan : List PlanAt) (n : ℕ) (out₀ : Text)
           let g : Goes bits out p k t c kinds = run .tells bits in
           stopped
           (g .goes ∙ ap (joined Verdict.Pass (g .lines)) (turn bits
-          ∙ ap (λ (v : Verdict). joined v (goes-by bits .lines) (tell (o .endianness) (goes-by bits .after) (rest bits (k + 1))))
+          ∙ ap (λ (v : Verdict). joined v (goes-by bits .lines) (tell o (goes-by bits .after) (rest bits (k + 1))))
           (sym (u .steps bits .verdict-is) ∙ e)))
           (chain (g .wrote) (u .steps bits .wrote))
 
@@ -174,9 +175,9 @@ module _ (o : Options) (s : Text) (plan : List PlanAt) (n : ℕ) (out₀ : Text)
               wrote = chain (g .wrote) (u .steps bits .wrote);
               goes =
                   g .goes ∙ ap (joined Verdict.Pass (g .lines)) (turn bits
-                  ∙ ap (λ (v : Verdict). joined v (goes-by bits .lines) (tell (o .endianness) (goes-by bits .after) (rest bits (k + 1))))
+                  ∙ ap (λ (v : Verdict). joined v (goes-by bits .lines) (tell o (goes-by bits .after) (rest bits (k + 1))))
                   (sym (u .steps bits .verdict-is) ∙ e)
-                  ∙ ap (λ (x : flow.State). joined Verdict.Pass (goes-by bits .lines) (tell (o .endianness) x (rest bits (k + 1))))
+                  ∙ ap (λ (x : flow.State). joined Verdict.Pass (goes-by bits .lines) (tell o x (rest bits (k + 1))))
                   (sym (u .steps bits .goes-on e)))
                   ∙ ap (λ (x : Text). record { verdict = left bits (k + 1) (q .state) d held .verdict; lines = x })
                   (sym (append-assoc (g .lines) (goes-by bits .lines) (left bits (k + 1) (q .state) d held .lines)));

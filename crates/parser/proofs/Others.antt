@@ -32,7 +32,7 @@ use Rattle.parser.specs.Driver.{saidIn, misplaced, isRefused, answerBy, 
 -- ---- what it emits
 
 abbrev quiet : State → State
-quiet t = record { shift = t .shift; nr = t .nr; pending = false }
+quiet t = record { shift = t .shift; nr = t .nr; raws = t .raws; pending = false }
 
 module _ (o : Options) (s : Text) (t : State) (e : EmitAt) where
   abbrev Says : Text → ℕ → Step → Text → Type 0

@@ -10,10 +10,10 @@ use lib.ListN.{length, length-set, set}
 use borrow.Author.Tests.{eq-eqb, ne-eqb, eqb-true, eqb-false}
 use Rattle.definitions.specs.Bytes.{Text, text}
 use Rattle.definitions.specs.Blocks.{Bit, Kind}
-use Rattle.definitions.specs.FieldParser.{nextNr}
 use Rattle.definitions.specs.declared.Options.{Options}
 use Rattle.definitions.specs.declared.Part.{Part}
 use Rattle.definitions.specs.declared.Verdict.{Verdict}
+use Rattle.definitions.proofs.Raws.{raws-most}
 use Rattle.text.proofs.Puts.{like, still}
 use Rattle.stream.specs.Stream.{calm}
 use Rattle.stream.specs.Stream as flow
@@ -32,16 +32,18 @@ use Rattle.chunk_lines.specs.Bits.{sumTo, aloneOf, bitsOf}
 use Rattle.chunk_lines.proofs.Fields.{bits-length}
 use Rattle.chunks.specs.declared.State.{State}
 use Rattle.chunks.specs.declared.Step.{Step}
-use Rattle.chunks.specs.Steps.{seen, pushed, openedState, passedStep, closeAdvance, Closing, Advanced, Stepped}
+use Rattle.chunks.specs.Steps.{seen, aloneAt, pushed, openedState, passedStep, closedAfter, closeAdvance, Closing, Advanced, Stepped}
 use Rattle.chunks.proofs.Grown.{sum-more, grown-bits}
 use Rattle.chunks.proofs.Advances.{next-below, closed-after, grown, open-advance, closes}
 use Rattle.parser.specs.Driver.{saidIn, isAlone}
 
--- ---- before entry k: the chunk has at most as many fields as were met, its shift is the sum of its widths, and the bits to come fit
+-- ---- before entry k: the chunk has at most as many fields as were met, and so have it and the tested enums before it; its shift is the sum of its
+-- widths, and the bits to come fit
 
 pub record Going (plan : List PlanAt) (n k : ℕ) (t : State) (c : Chunk) (kinds : List Held) : Type 0 where
   pub few : c .len ≤ k
   pub numbers : t .nr ≤ k
+  pub tested : t .raws + c .len ≤ k
   pub sum : t .shift ≡ sumTo (c .widths) (c .len)
   pub fits : t .shift + widthsAt plan k (n - k) < 2 ^ 31
   pub shifts-long : length (c .shifts) ≡ 64
@@ -90,7 +92,7 @@ module _ (o : Options) (s : Text) (plan : List PlanAt) (n : ℕ) where
   pub record Turned (k : ℕ) (t : State) (c : Chunk) (kinds : List Held) (out : Text) (p : ℕ) (r : Step) (d : Chunk) (held : List Held) (left : Text)
       : Type 0 where
     pub steps : (bits : Part → ℕ)
-        → Advanced (advance (o .endianness) (seen t (fieldsIn c kinds)) (plannedIn o s bits (entryAt plan k)) (runAt plan (k + 1) (n - (k + 1))))
+        → Advanced (advance o (seen t (fieldsIn c kinds)) (plannedIn o s bits (entryAt plan k)) (runAt plan (k + 1) (n - (k + 1))))
         (fieldsIn d held) out p r left
     pub going : r .verdict ≡ Verdict.Pass → Going plan n (k + 1) (r .state) d held
 
@@ -121,7 +123,7 @@ module _ (o : Options) (s : Text) (plan : List PlanAt) (n : ℕ) where
           record {
             steps = λ bits.
                 subst (λ (x : PlanAt).
-                Advanced (advance (o .endianness) (seen t (fieldsIn c kinds)) (plannedIn o s bits x) behind) (fieldsIn c kinds) out p r left)
+                Advanced (advance o (seen t (fieldsIn c kinds)) (plannedIn o s bits x) behind) (fieldsIn c kinds) out p r left)
                 other-is (d bits (fieldsIn c kinds) l .advances);
             going = λ v.
                 let q : seen (r .state) (fieldsIn c kinds) ≡ calm (seen t (fieldsIn c kinds)) =
@@ -130,6 +132,7 @@ module _ (o : Options) (s : Text) (plan : List PlanAt) (n : ℕ) where
                 record {
                   few = omega (arith, g .few);
                   numbers = omega (arith, g .numbers, ap (λ (x : flow.State). x .chunkNr) q);
+                  tested = omega (arith, g .tested, ap (λ (x : flow.State). x .rawNr) q);
                   sum = ap (λ (x : flow.State). x .shift) q ∙ g .sum;
                   fits = omega (arith, g .fits, widths-as other-is, ap (λ (x : flow.State). x .shift) q);
                   shifts-long = g .shifts-long;
@@ -156,36 +159,36 @@ module _ (o : Options) (s : Text) (plan : List PlanAt) (n : ℕ) where
       pub shift-fits : t .shift + width < 2 ^ 64
       shift-fits = omega (arith, below)
 
-      pub alone-fits : width + later < 2 ^ 64
-      alone-fits = omega (arith, below)
+      pub alone-fits : (width + later < 2 ^ 64) × (t .raws + 1 < 2 ^ 64)
+      alone-fits = (omega (arith, below), omega (arith, g .tested, h, b))
 
       abbrev what : Kind
       what = kindIn (o .arrays) s (text "payload") kind
 
       -- its advance, in the plan's words
       turned : {out left : Text} {p : ℕ} {r : Step} (d : Chunk) (held : List Held)
-          → Advanced (bitAdvance (o .endianness) (seen t (fieldsIn c kinds)) what width later) (fieldsIn d held) out p r left
+          → Advanced (bitAdvance o (seen t (fieldsIn c kinds)) what width later) (fieldsIn d held) out p r left
           → (r .verdict ≡ Verdict.Pass → Going plan n (k + 1) (r .state) d held) → Turned k t c kinds out p r d held left
       turned {out} {left} {p} {r} d held a going = record {
         steps = λ bits.
             subst (λ (x : PlanAt).
-            Advanced (advance (o .endianness) (seen t (fieldsIn c kinds)) (plannedIn o s bits x) behind) (fieldsIn d held) out p r left) bit-is
-            (subst (λ (m : ℕ). Advanced (bitAdvance (o .endianness) (seen t (fieldsIn c kinds)) what width m) (fieldsIn d held) out p r left) later-is a);
+            Advanced (advance o (seen t (fieldsIn c kinds)) (plannedIn o s bits x) behind) (fieldsIn d held) out p r left) bit-is
+            (subst (λ (m : ℕ). Advanced (bitAdvance o (seen t (fieldsIn c kinds)) what width m) (fieldsIn d held) out p r left) later-is a);
         going = going;
       }
 
       -- behind a chunk that closed, which leaves the arrays as they are
-      closed-going : (u : flow.State) → u .chunkNr ≡ t .nr → (r : Step) (d : Chunk) (held : List Held) → d .len ≡ 0
-          → length (d .shifts) ≡ 64 → length (d .widths) ≡ 64 → length held ≡ 64 → seen (r .state) [] ≡ closeAdvance (o .endianness) u later .after
-          → closeAdvance (o .endianness) u later .verdict ≡ Verdict.Pass → Going plan n (k + 1) (r .state) d held
+      closed-going : (u : flow.State) → u .chunkNr ≡ t .nr → u .rawNr + length (u .chunk) ≤ k + 1 → (r : Step) (d : Chunk) (held : List Held) → d .len ≡ 0
+          → length (d .shifts) ≡ 64 → length (d .widths) ≡ 64 → length held ≡ 64 → seen (r .state) [] ≡ closeAdvance o u later .after
+          → closeAdvance o u later .verdict ≡ Verdict.Pass → Going plan n (k + 1) (r .state) d held
       unfolding sumTo
-      closed-going u nr r d held len ls lw lk q v =
-          let a : seen (r .state) [] ≡ record { shift = 0; chunk = []; chunkNr = nextNr (u .chunkNr) (u .chunk); pending = true } =
-          q ∙ closed-after (o .endianness) u later v in
+      closed-going u nr raws r d held len ls lw lk q v =
+          let a : seen (r .state) [] ≡ closedAfter u = q ∙ closed-after o u later v in
           let x : r .state .shift ≡ 0 = ap (λ (y : flow.State). y .shift) a in
           record {
             few = omega (arith, len);
             numbers = omega (arith, g .numbers, nr, ap (λ (y : flow.State). y .chunkNr) a, next-below (u .chunkNr) (u .chunk));
+            tested = omega (arith, len, raws, ap (λ (y : flow.State). y .rawNr) a, raws-most (u .rawNr) (u .chunk));
             sum = x ∙ ap (sumTo (d .widths)) (sym len);
             fits = omega (arith, g .fits, widths-as bit-is, x);
             shifts-long = ls;
@@ -210,40 +213,41 @@ module _ (o : Options) (s : Text) (plan : List PlanAt) (n : ℕ) where
             second false b q = let z : _≡_ {A = ℕ} 0 1 = cc in absurd (omega arith)
 
         pub turned-alone : yes ≡ true → {out left : Text} {p : ℕ} {r : Step}
-            → Stepped t (closeAdvance (o .endianness)
-            (record { shift = width; chunk = aloneOf (o .arrays) s (text "payload") width kind; chunkNr = t .nr; pending = t .pending }) later) [] out p r left
+            → Stepped t (closeAdvance o (aloneAt t width (aloneOf (o .arrays) s (text "payload") width kind)) later) [] out p r left
             → Turned k t c kinds out p r c kinds left
         unfolding bitsOf sumTo
         turned-alone f {out} {left} {p} {r} d =
             let len : c .len ≡ 0 = alone-len f in
             let none : fieldsIn c kinds ≡ [] = ap (bitsOf (o .arrays) s (text "payload") c kinds) len in
             let zero-shift : t .shift ≡ 0 = g .sum ∙ ap (sumTo (c .widths)) len in
-            let as-grown : record { shift = width; chunk = aloneOf (o .arrays) s (text "payload") width kind; chunkNr = t .nr; pending = t .pending }
-            ≡ grown (o .endianness) (seen t (fieldsIn c kinds)) what width later =
+            let as-grown : aloneAt t width (aloneOf (o .arrays) s (text "payload") width kind) ≡ grown o (seen t (fieldsIn c kinds)) what width later =
             ap (λ (x : ℕ). record {
               shift = x;
               chunk = record { shift = 0; width = width; kind = what } ∷ [];
               chunkNr = t .nr;
+              rawNr = t .raws;
               pending = t .pending;
             }) (let z : width ≡ 0 + width = omega arith in z)
             ∙ ap (λ (x : ℕ). record {
               shift = x + width;
               chunk = record { shift = x; width = width; kind = what } ∷ [];
               chunkNr = t .nr;
+              rawNr = t .raws;
               pending = t .pending;
             }) (sym zero-shift)
             ∙ ap (λ (bs : List Bit). record {
               shift = t .shift + width;
               chunk = bs ++ (record { shift = t .shift; width = width; kind = what } ∷ []);
               chunkNr = t .nr;
+              rawNr = t .raws;
               pending = t .pending;
             }) (sym none) in
             turned c kinds
-            (subst (λ (bs : List Bit). Advanced (bitAdvance (o .endianness) (seen t (fieldsIn c kinds)) what width later) bs out p r left) (sym none)
-            (closes (o .endianness) (seen t (fieldsIn c kinds)) what width later
+            (subst (λ (bs : List Bit). Advanced (bitAdvance o (seen t (fieldsIn c kinds)) what width later) bs out p r left) (sym none)
+            (closes o (seen t (fieldsIn c kinds)) what width later
             (ap (λ (x : ℕ). x % 8) (let y : t .shift + width ≡ width = omega (arith, zero-shift) in y) ∙ alone-whole f)
-            (subst (λ (u : flow.State). Advanced (closeAdvance (o .endianness) u later) [] out p r left) as-grown (d .advances))))
-            (λ v. closed-going _ refl r c kinds len (g .shifts-long) (g .widths-long) (g .kinds-long) (d .advances .goes-on v)
+            (subst (λ (u : flow.State). Advanced (closeAdvance o u later) [] out p r left) as-grown (d .advances))))
+            (λ v. closed-going _ refl (omega (arith, g .tested, len)) r c kinds len (g .shifts-long) (g .widths-long) (g .kinds-long) (d .advances .goes-on v)
             (sym (d .advances .verdict-is) ∙ v))
 
         -- in a chunk with others
@@ -278,17 +282,23 @@ module _ (o : Options) (s : Text) (plan : List PlanAt) (n : ℕ) where
               ∙ grown-bits (o .arrays) s (text "payload") c kinds kind (t .shift) width (omega (arith, room, g .shifts-long))
               (omega (arith, room, g .widths-long)) (omega (arith, room, g .kinds-long))
 
-          seen-as : seen u (fieldsIn d held) ≡ grown (o .endianness) (seen t (fieldsIn c kinds)) what width later
+          seen-as : seen u (fieldsIn d held) ≡ grown o (seen t (fieldsIn c kinds)) what width later
           seen-as =
               ap (λ (x : State). seen x (fieldsIn d held)) eu
-              ∙ ap (λ (bs : List Bit). record { shift = t .shift + width; chunk = bs; chunkNr = t .nr; pending = t .pending }) bits-are
+              ∙ ap (λ (bs : List Bit). record {
+                shift = t .shift + width;
+                chunk = bs;
+                chunkNr = t .nr;
+                rawNr = t .raws;
+                pending = t .pending;
+              }) bits-are
 
           -- which stays open
           opened-turn : (u .shift % 8 ≡ 0 → ⊥) → (out : Text) (p : ℕ) → length out < 2 ^ 63 → Turned k t c kinds out p (passedStep p u) d held out
           opened-turn w out p l =
-              let q : bitAdvance (o .endianness) (seen t (fieldsIn c kinds)) what width later
-              ≡ record { verdict = Verdict.Pass; lines = []; after = grown (o .endianness) (seen t (fieldsIn c kinds)) what width later } =
-              open-advance (o .endianness) (seen t (fieldsIn c kinds)) what width later (λ q. w (ap (λ (x : ℕ). x % 8) shift-is ∙ q)) in
+              let q : bitAdvance o (seen t (fieldsIn c kinds)) what width later
+              ≡ record { verdict = Verdict.Pass; lines = []; after = grown o (seen t (fieldsIn c kinds)) what width later } =
+              open-advance o (seen t (fieldsIn c kinds)) what width later (λ q. w (ap (λ (x : ℕ). x % 8) shift-is ∙ q)) in
               turned d held
               (record {
                 verdict-is = ap (λ (x : Advance). x .verdict) (sym q);
@@ -298,6 +308,7 @@ module _ (o : Options) (s : Text) (plan : List PlanAt) (n : ℕ) where
               (λ v. record {
                 few = omega (arith, g .few, len-is);
                 numbers = omega (arith, g .numbers, ap (λ (x : State). x .nr) eu);
+                tested = omega (arith, g .tested, len-is, ap (λ (x : State). x .raws) eu);
                 sum = sum-is;
                 fits = omega (arith, g .fits, widths-as bit-is, shift-is);
                 shifts-long = d-long;
@@ -333,15 +344,18 @@ module _ (o : Options) (s : Text) (plan : List PlanAt) (n : ℕ) where
               sum = sum-is;
               fits = omega (arith, below, shift-is);
               few = omega (arith, g .numbers, h, b, ap (λ (x : State). x .nr) eu);
+              tested = omega (arith, g .tested, h, b, ap (λ (x : State). x .raws) eu);
             }
 
             pub turned-closed : {out left : Text} {p : ℕ} {r : Step}
-                → Stepped u (closeAdvance (o .endianness) (seen u (fieldsIn d held)) later) [] out p r left
+                → Stepped u (closeAdvance o (seen u (fieldsIn d held)) later) [] out p r left
                 → Turned k t c kinds out p r (record { shifts = d .shifts; widths = d .widths; len = 0 }) held left
             unfolding bitsOf
             turned-closed {out} {left} {p} {r} x =
                 turned (record { shifts = d .shifts; widths = d .widths; len = 0 }) held
-                (closes (o .endianness) (seen t (fieldsIn c kinds)) what width later (ap (λ (y : ℕ). y % 8) (sym shift-is) ∙ w)
-                (subst (λ (y : flow.State). Advanced (closeAdvance (o .endianness) y later) [] out p r left) seen-as (x .advances)))
-                (λ v. closed-going (seen u (fieldsIn d held)) (ap (λ (y : State). y .nr) eu) r _ held refl d-long d-wide held-long (x .advances .goes-on v)
+                (closes o (seen t (fieldsIn c kinds)) what width later (ap (λ (y : ℕ). y % 8) (sym shift-is) ∙ w)
+                (subst (λ (y : flow.State). Advanced (closeAdvance o y later) [] out p r left) seen-as (x .advances)))
+                (λ v. closed-going (seen u (fieldsIn d held)) (ap (λ (y : State). y .nr) eu)
+                (omega (arith, g .tested, len-is, ap (λ (y : State). y .raws) eu, bits-length (o .arrays) s (text "payload") d held (d .len))) r _ held
+                refl d-long d-wide held-long (x .advances .goes-on v)
                 (sym (x .advances .verdict-is) ∙ v))

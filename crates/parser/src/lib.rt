@@ -49,6 +49,7 @@ fn append<'a>(
     let u = State {
         shift: t.shift,
         nr: t.nr,
+        raws: t.raws,
         pending: false,
     };
     match emit {
@@ -175,7 +176,7 @@ pub fn lower_target<'a>(
 ) -> Lowered
     requires { ⌜ (n ≤ 64) × Sound plan n ⌝ }
     ensures { λ r. let s : Text = now (rec .entry) in
-        ⌜ ((bits : Part → ℕ) → Tells (tell (options .endianness) fresh (plansFrom options s bits plan 0 n)) (now (out .entry)) at r (now (out .exit))) ⌝ }
+        ⌜ ((bits : Part → ℕ) → Tells (tell options fresh (plansFrom options s bits plan 0 n)) (now (out .entry)) at r (now (out .exit))) ⌝ }
 {
     let none = KindAt::Reserved;
     let mut kinds = [Held { kind: none }; 64];

@@ -11,7 +11,6 @@ use Rattle.definitions.specs.Sizes.{Annotated}
 use Rattle.definitions.specs.FieldParser.{Setting, kindOf, isBit, onBoundary, Emit, appends, lowerFields}
 use Rattle.definitions.specs.FieldParser.{parseTypedefField, parsePayloadFieldLite, parseOptionalField, parseOther, parseUnchecked}
 use Rattle.definitions.specs.FieldParser as parser
-use Rattle.definitions.specs.declared.EndiannessValue.{EndiannessValue}
 use Rattle.definitions.specs.declared.FieldDesc.{FieldDesc}
 use Rattle.definitions.specs.declared.Cond.{Cond}
 use Rattle.definitions.specs.declared.Refusal.{Refusal}
@@ -123,12 +122,9 @@ bits-ahead c (a ∷ later) = by (isBit c (a .field)) (bits-ahead c later)
     by false e = refl
 
 module _ (c : Setting) where
-  abbrev order : EndiannessValue
-  order = c .options .endianness
-
   -- what the fields behind a state come to
   abbrev rest : List Annotated → State → Told
-  rest later s = tell order s (plansOf c later)
+  rest later s = tell (c .options) s (plansOf c later)
 
   module _ (s : State) (a : Annotated) (later : List Annotated) where
     abbrev kind : Kind
@@ -136,7 +132,7 @@ module _ (c : Setting) where
 
     step-bit : resultOf (rest later (closed c s a)) ≡ stream c (closed c s a) later
         → resultOf (rest later (opened c s a)) ≡ stream c (opened c s a) later
-        → resultOf (step (bitAdvance order s kind (widthOf a) (bitsAhead (plansOf c later))) (rest later))
+        → resultOf (step (bitAdvance (c .options) s kind (widthOf a) (bitsAhead (plansOf c later))) (rest later))
         ≡ (elim (eqb ((s .shift + widthOf a) % 8) 0) as (λ _. Result) [
           | true ↦ elim (ltb 64 (s .shift + widthOf a)) as (λ _. Result) [
             | true ↦ refuses Refusal.ScalarTooWide
@@ -145,7 +141,7 @@ module _ (c : Setting) where
           | false ↦ stream c (opened c s a) later
         ])
     unfolding bitAdvance
-    step-bit ec eo = ap (λ (n : ℕ). resultOf (step (bitAdvance order s kind (widthOf a) n) (rest later))) (bits-ahead c later)
+    step-bit ec eo = ap (λ (n : ℕ). resultOf (step (bitAdvance (c .options) s kind (widthOf a) n) (rest later))) (bits-ahead c later)
         ∙ by (eqb ((s .shift + widthOf a) % 8) 0) (ltb 64 (s .shift + widthOf a))
       where
         by : (b w : Bool) → resultOf (step (elim b as (λ _. Advance) [
@@ -166,7 +162,7 @@ module _ (c : Setting) where
         by true false = passed (closing c s a later) (rest later (closed c s a)) ∙ ap (ahead (closing c s a later)) ec
         by false w = eo
 
-  pub tell-streams : (s : State) (xs : List Annotated) → resultOf (tell (c .options .endianness) s (plansOf c xs)) ≡ stream c s xs
+  pub tell-streams : (s : State) (xs : List Annotated) → resultOf (tell (c .options) s (plansOf c xs)) ≡ stream c s xs
   unfolding tell plansOf planOf stream
   tell-streams s [] = by (s .pending) (s .chunk)
     where
@@ -180,7 +176,7 @@ module _ (c : Setting) where
       by : (b : Bool) → resultOf (rest later (closed c s a)) ≡ stream c (closed c s a) later
           → resultOf (rest later (opened c s a)) ≡ stream c (opened c s a) later
           → resultOf (rest later (calm s)) ≡ stream c (calm s) later
-          → resultOf (tell order s ((elim b as (λ _. Planned) [
+          → resultOf (tell (c .options) s ((elim b as (λ _. Planned) [
             | true ↦ bit (widthOf a) (kindOf c (a .field .desc))
             | false ↦ other (aligned (a .field)) (saidBy (parseUnchecked c 0 a later))
           ]) ∷ plansOf c later))
@@ -201,5 +197,5 @@ module _ (c : Setting) where
           ∙ ap (λ (r : Result). flushing (s .pending) (s .chunk) (emitting (parseUnchecked c (s .shift) a later) r)) en
 
   -- what the plan tells is the definitions' lowering
-  pub told : (xs : List Annotated) → rendered (lowerFields c xs) ≡ resultOf (tell (c .options .endianness) fresh (plansOf c xs))
+  pub told : (xs : List Annotated) → rendered (lowerFields c xs) ≡ resultOf (tell (c .options) fresh (plansOf c xs))
   told xs = streamed c xs ∙ sym (tell-streams fresh xs)

@@ -6,12 +6,12 @@ use mathlib.Core.List.{List, [], _∷_, _++_}
 use Prim.Native.Nat.{ℕ, _+_, _/_, _%_}
 use lib.Dec.{eqb, ltb}
 use Rattle.definitions.specs.Bytes.{Text}
-use Rattle.definitions.specs.Blocks.{Kind, Bit}
+use Rattle.definitions.specs.Blocks.{Kind, Bit, rawsBehind}
 use Rattle.definitions.specs.FieldParser.{nextNr}
-use Rattle.definitions.specs.declared.EndiannessValue.{EndiannessValue}
+use Rattle.definitions.specs.declared.Options.{Options}
 use Rattle.definitions.specs.declared.Refusal.{Refusal}
 use Rattle.definitions.specs.declared.Verdict.{Verdict}
-use Rattle.stream.specs.Stream.{Result, refuses, writes, State, checkText, chunkText, calm}
+use Rattle.stream.specs.Stream.{Result, refuses, writes, State, checkText, chunkText, calm, chunkAt}
 use Rattle.plans.specs.Planned.{Said, says, silent, stops, Planned, bit, other, bitsAhead}
 
 -- ---- one field: its verdict, its lines, and the state behind it
@@ -21,7 +21,7 @@ pub record Advance : Type 0 where
   pub lines : Text
   pub after : State
 
-module _ (order : EndiannessValue) (s : State) (kind : Kind) (width later : ℕ) where
+module _ (o : Options) (s : State) (kind : Kind) (width later : ℕ) where
   -- the chunk with one field more
   abbrev pub grownBits : List Bit
   grownBits = s .chunk ++ (record { shift = s .shift; width = width; kind = kind } ∷ [])
@@ -33,14 +33,20 @@ module _ (order : EndiannessValue) (s : State) (kind : Kind) (width later : ℕ)
       | true ↦ record { verdict = Verdict.Refuse Refusal.ScalarTooWide; lines = []; after = s }
       | false ↦ record {
         verdict = Verdict.Pass;
-        lines = checkText (s .pending) ((s .shift + width + later) / 8) ++ chunkText order (s .chunkNr) grownBits;
-        after = record { shift = 0; chunk = []; chunkNr = nextNr (s .chunkNr) grownBits; pending = true };
+        lines = checkText (s .pending) ((s .shift + width + later) / 8) ++ chunkText o (chunkAt s grownBits);
+        after = record {
+          shift = 0;
+          chunk = [];
+          chunkNr = nextNr (s .chunkNr) grownBits;
+          rawNr = rawsBehind (s .rawNr) grownBits;
+          pending = true;
+        };
       }
     ]
     | false ↦ record {
       verdict = Verdict.Pass;
       lines = [];
-      after = record { shift = s .shift + width; chunk = grownBits; chunkNr = s .chunkNr; pending = s .pending };
+      after = record { shift = s .shift + width; chunk = grownBits; chunkNr = s .chunkNr; rawNr = s .rawNr; pending = s .pending };
     }
   ]
 
@@ -67,9 +73,9 @@ otherAdvance s must said = elim (flushVerdict (s .pending) (s .chunk)) [
 ]
 
 -- with the bits of the bit fields behind it
-abbrev pub advance : EndiannessValue → State → Planned → ℕ → Advance
-advance order s (bit width kind) later = bitAdvance order s kind width later
-advance order s (other must said) later = otherAdvance s must said
+abbrev pub advance : Options → State → Planned → ℕ → Advance
+advance o s (bit width kind) later = bitAdvance o s kind width later
+advance o s (other must said) later = otherAdvance s must said
 
 -- ---- all fields
 
@@ -82,11 +88,11 @@ abbrev pub joined : Verdict → Text → Told → Told
 joined Verdict.Pass t next = record { verdict = next .verdict; lines = t ++ next .lines }
 joined (Verdict.Refuse why) t next = record { verdict = Verdict.Refuse why; lines = t }
 
-unfoldable pub tell : EndiannessValue → State → List Planned → Told
-tell order s [] = record { verdict = flushVerdict (s .pending) (s .chunk); lines = [] }
-tell order s (p ∷ later) =
-    joined (advance order s p (bitsAhead later) .verdict) (advance order s p (bitsAhead later) .lines)
-    (tell order (advance order s p (bitsAhead later) .after) later)
+unfoldable pub tell : Options → State → List Planned → Told
+tell o s [] = record { verdict = flushVerdict (s .pending) (s .chunk); lines = [] }
+tell o s (p ∷ later) =
+    joined (advance o s p (bitsAhead later) .verdict) (advance o s p (bitsAhead later) .lines)
+    (tell o (advance o s p (bitsAhead later) .after) later)
 
 -- as the stream's
 abbrev pub resultBy : Verdict → Text → Result

@@ -6,7 +6,7 @@ use mathlib.Core.List.{_∷_}
 use mathlib.Core.Path.{_≡_, refl, sym, ap, _∙_}
 use Rattle.definitions.specs.Bytes.{Text, text, part, pick}
 use Rattle.definitions.specs.Keywords.{isKeyword}
-use Rattle.definitions.specs.Record.{keyAt, onFound, onNumber, onBit, onMaybeNumber, onMaybeSize, onPart, onCond, onDesc, numberLine, bitLine, nameLine, maybeNameLine, bitsLine, maybeNumberLine, descAt, condAt, fieldAt, parentedAt, enumAt, checksumDeclAt, customAt, trailingAt, headIs}
+use Rattle.definitions.specs.Record.{keyAt, onFound, onNumber, onBit, onMaybeNumber, onMaybeSize, onPart, onCond, onDesc, numberLine, bitLine, nameLine, maybeNameLine, bitsLine, maybeNumberLine, descAt, condAt, fieldAt, parentedAt, enumAt, checksumDeclAt, customAt, trailingAt, rawAt, behindTrailing, optionalAt, headIs}
 use Rattle.definitions.specs.Refusals.{anyKeyword, maybeName, descNames, condNames}
 use Rattle.definitions.specs.declared.Part.{Part}
 use Rattle.definitions.specs.declared.MaybePart.{MaybePart}
@@ -25,6 +25,8 @@ use Rattle.definitions.specs.declared.CondRead.{CondRead}
 use Rattle.definitions.specs.declared.FieldRead.{FieldRead}
 use Rattle.definitions.specs.declared.DeclRead.{DeclRead}
 use Rattle.definitions.specs.declared.TrailingRead.{TrailingRead}
+use Rattle.definitions.specs.declared.RawRead.{RawRead}
+use Rattle.definitions.specs.declared.OptionalRead.{OptionalRead}
 use Rattle.definitions.specs.declared.HeadRead.{HeadRead}
 use Rattle.definitions.specs.declared.ScreenedName.{ScreenedName}
 use Rattle.definitions.specs.declared.ScreenedPart.{ScreenedPart}
@@ -295,26 +297,35 @@ pub ruleset decl-chain = (decl-found, decl-no-found)
 
 -- ---- the head
 
--- the line `trailing`, or none
-module _ (bad : TrailingRead) (f : ℕ → TrailingRead) {x : TrailingRead} {r e : Found} (h : r ≡ e) where
-  pub trailing-found : {p : ℕ} → r ≡ Found.At p → x ≡ f p → x ≡ onFound e bad f
-  trailing-found k t = t ∙ ap (λ (e : Found). onFound e bad f) (sym k ∙ h)
+-- a line that may be absent
+module _ {A : Type 0} (bad : A) (f : ℕ → A) {x : A} {r e : Found} (h : r ≡ e) where
+  pub line-found : {p : ℕ} → r ≡ Found.At p → x ≡ f p → x ≡ onFound e bad f
+  line-found k t = t ∙ ap (λ (e : Found). onFound e bad f) (sym k ∙ h)
 
-  pub trailing-absent : r ≡ Found.Nothing → x ≡ bad → x ≡ onFound e bad f
-  trailing-absent k t = t ∙ ap (λ (e : Found). onFound e bad f) (sym k ∙ h)
+  pub line-absent : r ≡ Found.Nothing → x ≡ bad → x ≡ onFound e bad f
+  line-absent k t = t ∙ ap (λ (e : Found). onFound e bad f) (sym k ∙ h)
 
-pub ruleset trailing-chain = (trailing-found, trailing-absent)
+pub ruleset line-chain = (line-found, line-absent)
 
-module _ (endianness : EndiannessValue) (arrays : Arrays) {target : ScreenedName} (last : TrailingRead) where
+-- both of them
+pub optional-lines : (s : Text) (at : ℕ) {first : TrailingRead} {second : RawRead} → first ≡ trailingAt s at → second ≡ rawAt s (first .next)
+    → behindTrailing (first .trailing) second ≡ optionalAt s at
+unfolding optionalAt
+optional-lines s at {first} {second} e f =
+    ap (behindTrailing (first .trailing)) f ∙ ap (λ (t : TrailingRead). behindTrailing (t .trailing) (rawAt s (t .next))) e
+
+module _ (endianness : EndiannessValue) (arrays : Arrays) {target : ScreenedName} (last : OptionalRead) where
   pub head-free : {t : Part} → target ≡ ScreenedName.Free t
-      → ScreenedHead.Is (record { options = record { endianness = endianness; arrays = arrays; trailing = last .trailing }; target = t }) (last .next)
+      → ScreenedHead.Is
+      (record { options = record { endianness = endianness; arrays = arrays; trailing = last .trailing; raw = last .raw }; target = t })
+      (last .next)
       ≡ headOf endianness arrays target last
   head-free h = rw h
 
   pub head-kept : target ≡ ScreenedName.Keyword → ScreenedHead.Keyword (last .next) ≡ headOf endianness arrays target last
   head-kept h = rw h
 
-pub head-read : (endianness : EndiannessValue) (arrays : Arrays) (target : ScreenedName) {last t : TrailingRead} → last ≡ t
+pub head-read : (endianness : EndiannessValue) (arrays : Arrays) (target : ScreenedName) {last t : OptionalRead} → last ≡ t
     → {x : ScreenedHead} → x ≡ headOf endianness arrays target last → x ≡ headOf endianness arrays target t
 head-read endianness arrays target h k = k ∙ ap (headOf endianness arrays target) h
 
@@ -323,17 +334,19 @@ module _ (s : Text) (at : ℕ) (endianness : EndiannessValue) where
   targetSteps =
       onScreened (screenName s (nameLine s at (text "target="))) ScreenedHead.Wrong λ target q.
       onFound (keyAt s q (text "arrays=lite\n"))
-      (onFound (keyAt s q (text "arrays=full\n")) ScreenedHead.Wrong λ r. headOf endianness Arrays.Full target (trailingAt s r))
-      λ r. headOf endianness Arrays.Lite target (trailingAt s r)
+      (onFound (keyAt s q (text "arrays=full\n")) ScreenedHead.Wrong λ r. headOf endianness Arrays.Full target (optionalAt s r))
+      λ r. headOf endianness Arrays.Lite target (optionalAt s r)
 
-  head-of : (arrays : Arrays) (target : Part) (t : TrailingRead)
+  head-of : (arrays : Arrays) (target : Part) (t : OptionalRead)
       → headOf endianness arrays (freeName s target) t ≡ screenHead s (headIs endianness target arrays t)
   head-of arrays target t = by (isKeyword (part s target))
     where
       by : (b : Bool)
           → headOf endianness arrays (pick b ScreenedName.Keyword (ScreenedName.Free target)) t
           ≡ pick b (ScreenedHead.Keyword (t .next))
-          (ScreenedHead.Is (record { options = record { endianness = endianness; arrays = arrays; trailing = t .trailing }; target = target }) (t .next))
+          (ScreenedHead.Is
+          (record { options = record { endianness = endianness; arrays = arrays; trailing = t .trailing; raw = t .raw }; target = target })
+          (t .next))
       by true = refl
       by false = refl
 
@@ -343,8 +356,8 @@ module _ (s : Text) (at : ℕ) (endianness : EndiannessValue) where
       ∙ after-name (screenHead s) HeadRead.Wrong s _
       (λ target q.
       after-found (screenHead s)
-      (after-found (screenHead s) refl (λ r. head-of Arrays.Full target (trailingAt s r)) (keyAt s q (text "arrays=full\n")))
-      (λ r. head-of Arrays.Lite target (trailingAt s r))
+      (after-found (screenHead s) refl (λ r. head-of Arrays.Full target (optionalAt s r)) (keyAt s q (text "arrays=full\n")))
+      (λ r. head-of Arrays.Lite target (optionalAt s r))
       (keyAt s q (text "arrays=lite\n")))
       (nameLine s at (text "target="))
 

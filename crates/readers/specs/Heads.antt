@@ -3,7 +3,7 @@
 -- Assumes nothing.
 use Prim.Native.Nat.{ℕ}
 use Rattle.definitions.specs.Bytes.{Text, text}
-use Rattle.definitions.specs.Record.{nameLine, onName, onArrays, trailingAt, headIs}
+use Rattle.definitions.specs.Record.{nameLine, onName, onArrays, optionalAt, headIs}
 use Rattle.definitions.specs.declared.Arrays.{Arrays}
 use Rattle.definitions.specs.declared.DeclDesc.{DeclDesc}
 use Rattle.definitions.specs.declared.EndiannessValue.{EndiannessValue}
@@ -11,7 +11,7 @@ use Rattle.definitions.specs.declared.HeadRead.{HeadRead}
 use Rattle.definitions.specs.declared.MaybePart.{MaybePart}
 use Rattle.definitions.specs.declared.ScreenedName.{ScreenedName}
 use Rattle.definitions.specs.declared.ScreenedHead.{ScreenedHead}
-use Rattle.definitions.specs.declared.TrailingRead.{TrailingRead}
+use Rattle.definitions.specs.declared.OptionalRead.{OptionalRead}
 use Rattle.readers.specs.declared.Parented.{Parented}
 
 abbrev pub parented : Parented → MaybePart → DeclDesc
@@ -22,10 +22,12 @@ abbrev pub targetAt : Text → ℕ → EndiannessValue → HeadRead
 targetAt s at endianness =
     onName (nameLine s at (text "target=")) HeadRead.Wrong λ target q.
     onArrays s q HeadRead.Wrong λ arrays r.
-    headIs endianness target arrays (trailingAt s r)
+    headIs endianness target arrays (optionalAt s r)
 
 -- a head whose target is a name, or a keyword
-abbrev pub headOf : EndiannessValue → Arrays → ScreenedName → TrailingRead → ScreenedHead
+abbrev pub headOf : EndiannessValue → Arrays → ScreenedName → OptionalRead → ScreenedHead
 headOf endianness arrays (ScreenedName.Free target) t =
-    ScreenedHead.Is (record { options = record { endianness = endianness; arrays = arrays; trailing = t .trailing }; target = target }) (t .next)
+    ScreenedHead.Is
+    (record { options = record { endianness = endianness; arrays = arrays; trailing = t .trailing; raw = t .raw }; target = target })
+    (t .next)
 headOf endianness arrays ScreenedName.Keyword t = ScreenedHead.Keyword (t .next)

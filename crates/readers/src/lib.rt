@@ -1,5 +1,5 @@
-// A field, a declaration and the head, as they stand at a place of the record (document 01, 'The record'; the head's line `trailing`: document 02,
-// Card 3), or that a name in them is a keyword of C++ (document 02, Card 6).
+// A field, a declaration and the head, as they stand at a place of the record (document 01, 'The record'; the head's lines `trailing` and `raw`: document
+// 02, Cards 3 and 7), or that a name in them is a keyword of C++ (document 02, Card 6).
 
 use definitions::Arrays;
 use definitions::BitRead;
@@ -15,7 +15,10 @@ use definitions::MaybePart;
 use definitions::MaybeSize;
 use definitions::MaybeSizeRead;
 use definitions::NumberRead;
+use definitions::OptionalRead;
 use definitions::Options;
+use definitions::Raw;
+use definitions::RawRead;
 use definitions::ScreenedCond;
 use definitions::ScreenedDecl;
 use definitions::ScreenedDesc;
@@ -28,7 +31,7 @@ use definitions::ScreenedPartRead;
 use definitions::Trailing;
 use definitions::TrailingRead;
 ghost use mathlib.Core.Path.{_≡_};
-ghost use Rattle.definitions.specs.Record.{condAt, fieldAt, parentedAt, enumAt, checksumDeclAt, customAt, declAt, trailingAt, headAt};
+ghost use Rattle.definitions.specs.Record.{condAt, fieldAt, parentedAt, enumAt, checksumDeclAt, customAt, declAt, trailingAt, rawAt, optionalAt, headAt};
 ghost use Rattle.keywords.specs.Screens.{screenCond, screenField, screenDecl, screenHead};
 ghost use Rattle.readers.specs.Heads.{parented, targetAt, headOf};
 
@@ -268,16 +271,50 @@ fn trailing_at(rec: &[u8], at: usize) -> TrailingRead
     }
 }
 
-// A head with this target, whose last line is read.
+// `raw`, likewise.
+fn raw_at(rec: &[u8], at: usize) -> RawRead
+    ensures { λ r. ⌜ r ≡ rawAt (now (rec .entry)) at ⌝ }
+{
+    if let Found::At(next) = names::key_at(rec, at, b"raw=plain\n") {
+        let raw = Raw::Plain;
+        return RawRead { raw, next };
+    }
+    if let Found::At(next) = names::key_at(rec, at, b"raw=numbered\n") {
+        let raw = Raw::Numbered;
+        return RawRead { raw, next };
+    }
+    RawRead {
+        raw: Raw::Plain,
+        next: at,
+    }
+}
+
+// The lines that may be absent, in their order.
+fn optional_at(rec: &[u8], at: usize) -> OptionalRead
+    ensures { λ r. ⌜ r ≡ optionalAt (now (rec .entry)) at ⌝ }
+{
+    let first = trailing_at(rec, at);
+    let second = raw_at(rec, first.next);
+    let trailing = first.trailing;
+    let raw = second.raw;
+    OptionalRead {
+        trailing,
+        raw,
+        next: second.next,
+    }
+}
+
+// A head with this target, whose last lines are read.
 fn head_of(
     endianness: EndiannessValue,
     arrays: Arrays,
     target: ScreenedName,
-    last: TrailingRead,
+    last: OptionalRead,
 ) -> ScreenedHead
     ensures { λ r. ⌜ r ≡ headOf endianness arrays target last ⌝ }
 {
     let trailing = last.trailing;
+    let raw = last.raw;
     let next = last.next;
     match target {
         ScreenedName::Free(target) => {
@@ -285,6 +322,7 @@ fn head_of(
                 endianness,
                 arrays,
                 trailing,
+                raw,
             };
             ScreenedHead::Is(Head { options, target }, next)
         }
@@ -292,7 +330,7 @@ fn head_of(
     }
 }
 
-// `target`, `arrays` and `trailing`, the lines of the head behind `endian`.
+// The lines of the head behind `endian`.
 fn target_at(rec: &[u8], at: usize, endianness: EndiannessValue) -> ScreenedHead
     ensures { λ r. ⌜ r ≡ screenHead (now (rec .entry)) (targetAt (now (rec .entry)) at endianness) ⌝ }
 {
@@ -300,15 +338,15 @@ fn target_at(rec: &[u8], at: usize, endianness: EndiannessValue) -> ScreenedHead
         return ScreenedHead::Wrong;
     };
     if let Found::At(q) = names::key_at(rec, p, b"arrays=lite\n") {
-        return head_of(endianness, Arrays::Lite, target, trailing_at(rec, q));
+        return head_of(endianness, Arrays::Lite, target, optional_at(rec, q));
     }
     if let Found::At(q) = names::key_at(rec, p, b"arrays=full\n") {
-        return head_of(endianness, Arrays::Full, target, trailing_at(rec, q));
+        return head_of(endianness, Arrays::Full, target, optional_at(rec, q));
     }
     ScreenedHead::Wrong
 }
 
-// The head: `endian`, `target`, `arrays`, and `trailing` where it is there.
+// The head: `endian`, `target`, `arrays`, and `trailing` and `raw` where they are there.
 pub fn head_at(rec: &[u8], at: usize) -> ScreenedHead
     ensures { λ r. ⌜ r ≡ screenHead (now (rec .entry)) (headAt (now (rec .entry)) at) ⌝ }
 {

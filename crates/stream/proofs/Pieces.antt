@@ -7,7 +7,7 @@ use Prim.Native.Nat.{ℕ}
 use Rattle.definitions.specs.Bytes.{Text}
 use Rattle.definitions.specs.Lines.{Line, Stmt, Before, Expr, Test, lineText, linesText, stmtText, stmtsText, render}
 use Rattle.definitions.specs.Blocks.{body, checkSize, Chunk, chunkLines, chunksLines, Elem, Array, parseArrayFieldLite, parseArrayFieldFull, byMode, sizeName, fieldLines, Block, startName, gone, missing, roomFor, span, blockLines, program}
-use Rattle.definitions.specs.declared.EndiannessValue.{EndiannessValue}
+use Rattle.definitions.specs.declared.Options.{Options}
 use Rattle.definitions.specs.declared.Arrays.{Arrays}
 use Rattle.definitions.specs.declared.Modifier.{Modifier}
 use Rattle.definitions.specs.declared.ElementSize.{ElementSize}
@@ -95,7 +95,7 @@ padded-split p m w a l =
     ∙ ap (λ (t : List Stmt). t ++ l) (sym (field-split m w a (padding (startName (a .id)) p ∷ []))))
 
 pub block-split : (b : Block) (l : List Stmt) → blockLines b l ≡ blockLines b [] ++ l
-block-split (Block.checked order n cs) l = body-split (checkSize (Expr.lit n) ∷ chunksLines order cs) l
+block-split (Block.checked o n cs) l = body-split (checkSize (Expr.lit n) ∷ chunksLines o cs) l
 block-split (Block.sizedPayload x s m) l = refl
 block-split (Block.payloadUpTo x n) l = refl
 block-split (Block.payloadToEnd x) l = refl
@@ -123,31 +123,31 @@ program-more (d ∷ bs) b =
 
 -- ---- checked runs
 
-module _ (order : EndiannessValue) (n : ℕ) where
-  run-text : (cs : List Chunk) → blockText (Block.checked order n cs) ≡ checkText false n ++ linesText 0 (chunksLines order cs) []
+module _ (o : Options) (n : ℕ) where
+  run-text : (cs : List Chunk) → blockText (Block.checked o n cs) ≡ checkText false n ++ linesText 0 (chunksLines o cs) []
   unfolding blockText checkText
   run-text cs =
-      body-text (checkSize (Expr.lit n) ∷ chunksLines order cs)
-      ∙ line-leads 0 (checkSize (Expr.lit n)) .split [] (linesText 0 (chunksLines order cs) [])
+      body-text (checkSize (Expr.lit n) ∷ chunksLines o cs)
+      ∙ line-leads 0 (checkSize (Expr.lit n)) .split [] (linesText 0 (chunksLines o cs) [])
 
   chunks-more : (cs : List Chunk) (d : Chunk)
-      → linesText 0 (chunksLines order (cs ++ (d ∷ []))) [] ≡ linesText 0 (chunksLines order cs) [] ++ chunkText order (d .nr) (d .fields)
+      → linesText 0 (chunksLines o (cs ++ (d ∷ []))) [] ≡ linesText 0 (chunksLines o cs) [] ++ chunkText o d
   unfolding chunkText
-  chunks-more [] d = ap (λ (l : List Line). linesText 0 l []) (append-nil (chunkLines order (d .nr) (d .fields)))
+  chunks-more [] d = ap (λ (l : List Line). linesText 0 l []) (append-nil (chunkLines o d))
   chunks-more (e ∷ cs) d =
-      lines-append 0 (chunkLines order (e .nr) (e .fields)) (chunksLines order (cs ++ (d ∷ [])))
-      ∙ ap (λ (t : Text). chunkText order (e .nr) (e .fields) ++ t) (chunks-more cs d)
-      ∙ sym (append-assoc (chunkText order (e .nr) (e .fields)) (linesText 0 (chunksLines order cs) []) (chunkText order (d .nr) (d .fields)))
-      ∙ ap (λ (t : Text). t ++ chunkText order (d .nr) (d .fields)) (sym (lines-append 0 (chunkLines order (e .nr) (e .fields)) (chunksLines order cs)))
+      lines-append 0 (chunkLines o e) (chunksLines o (cs ++ (d ∷ [])))
+      ∙ ap (λ (t : Text). chunkText o e ++ t) (chunks-more cs d)
+      ∙ sym (append-assoc (chunkText o e) (linesText 0 (chunksLines o cs) []) (chunkText o d))
+      ∙ ap (λ (t : Text). t ++ chunkText o d) (sym (lines-append 0 (chunkLines o e) (chunksLines o cs)))
 
   -- the first chunk of a run, and one chunk more
-  pub run-first : (d : Chunk) → blockText (Block.checked order n (d ∷ [])) ≡ checkText false n ++ chunkText order (d .nr) (d .fields)
+  pub run-first : (d : Chunk) → blockText (Block.checked o n (d ∷ [])) ≡ checkText false n ++ chunkText o d
   run-first d = run-text (d ∷ []) ∙ ap (λ (t : Text). checkText false n ++ t) (chunks-more [] d)
 
   pub run-more : (cs : List Chunk) (d : Chunk)
-      → blockText (Block.checked order n (cs ++ (d ∷ []))) ≡ blockText (Block.checked order n cs) ++ chunkText order (d .nr) (d .fields)
+      → blockText (Block.checked o n (cs ++ (d ∷ []))) ≡ blockText (Block.checked o n cs) ++ chunkText o d
   run-more cs d =
       run-text (cs ++ (d ∷ []))
       ∙ ap (λ (t : Text). checkText false n ++ t) (chunks-more cs d)
-      ∙ sym (append-assoc (checkText false n) (linesText 0 (chunksLines order cs) []) (chunkText order (d .nr) (d .fields)))
-      ∙ ap (λ (t : Text). t ++ chunkText order (d .nr) (d .fields)) (sym (run-text cs))
+      ∙ sym (append-assoc (checkText false n) (linesText 0 (chunksLines o cs) []) (chunkText o d))
+      ∙ ap (λ (t : Text). t ++ chunkText o d) (sym (run-text cs))

@@ -9,10 +9,10 @@ use lib.Dec.{eqb, ltb}
 use Rattle.definitions.specs.Bytes.{Text}
 use Rattle.definitions.specs.Sizes.{Annotated, staticWidth}
 use Rattle.definitions.specs.Lines.{Expr, lineText, linesText, render}
-use Rattle.definitions.specs.Blocks.{Bit, checkSize, chunkLines, Block, blockLines, program}
+use Rattle.definitions.specs.Blocks.{Bit, Chunk, rawsBehind, checkSize, chunkLines, Block, blockLines, program}
 use Rattle.definitions.specs.FieldParser.{Setting, bitOf, nextNr, isBit, parseUnchecked, Emit, appends, silent, Outcome, refused, accepted}
 use Rattle.definitions.specs.FieldParser as parser
-use Rattle.definitions.specs.declared.EndiannessValue.{EndiannessValue}
+use Rattle.definitions.specs.declared.Options.{Options}
 use Rattle.definitions.specs.declared.Refusal.{Refusal}
 
 pub data Result : Type 0 where
@@ -34,10 +34,11 @@ pub record State : Type 0 where
   pub shift : ℕ
   pub chunk : List Bit
   pub chunkNr : ℕ
+  pub rawNr : ℕ
   pub pending : Bool
 
 abbrev pub fresh : State
-fresh = record { shift = 0; chunk = []; chunkNr = 0; pending = false }
+fresh = record { shift = 0; chunk = []; chunkNr = 0; rawNr = 0; pending = false }
 
 abbrev pub widthOf : Annotated → ℕ
 widthOf a = staticWidth (a .fieldSize)
@@ -53,8 +54,8 @@ checkText true n = []
 checkText false n = lineText 0 (checkSize (Expr.lit n)) []
 
 -- the lines of one chunk
-unfoldable pub chunkText : EndiannessValue → ℕ → List Bit → Text
-chunkText order nr bs = linesText 0 (chunkLines order nr bs) []
+unfoldable pub chunkText : Options → Chunk → Text
+chunkText o c = linesText 0 (chunkLines o c) []
 
 -- the lines of one block
 unfoldable pub blockText : Block → Text
@@ -77,20 +78,32 @@ abbrev pub grown : Setting → State → Annotated → List Bit
 grown c s a = s .chunk ++ (bitOf c (s .shift) a ∷ [])
 
 abbrev pub opened : Setting → State → Annotated → State
-opened c s a = record { shift = s .shift + widthOf a; chunk = grown c s a; chunkNr = s .chunkNr; pending = s .pending }
+opened c s a =
+    record { shift = s .shift + widthOf a; chunk = grown c s a; chunkNr = s .chunkNr; rawNr = s .rawNr; pending = s .pending }
 
 abbrev pub closed : Setting → State → Annotated → State
-closed c s a = record { shift = 0; chunk = []; chunkNr = nextNr (s .chunkNr) (grown c s a); pending = true }
+closed c s a =
+    record {
+      shift = 0;
+      chunk = [];
+      chunkNr = nextNr (s .chunkNr) (grown c s a);
+      rawNr = rawsBehind (s .rawNr) (grown c s a);
+      pending = true;
+    }
 
 -- after a field that is no bit field
 abbrev pub calm : State → State
-calm s = record { shift = s .shift; chunk = s .chunk; chunkNr = s .chunkNr; pending = false }
+calm s = record { shift = s .shift; chunk = s .chunk; chunkNr = s .chunkNr; rawNr = s .rawNr; pending = false }
+
+-- the chunk that closes, of these fields
+abbrev pub chunkAt : State → List Bit → Chunk
+chunkAt s bs = record { nr = s .chunkNr; rawNr = s .rawNr; fields = bs }
 
 -- what a closed chunk writes
 abbrev pub closing : Setting → State → Annotated → List Annotated → Text
 closing c s a later =
     checkText (s .pending) ((s .shift + widthOf a + runBits c later) / 8)
-    ++ chunkText (c .options .endianness) (s .chunkNr) (grown c s a)
+    ++ chunkText (c .options) (chunkAt s (grown c s a))
 
 -- the fields from one on, at a state
 unfoldable pub stream : Setting → State → List Annotated → Result

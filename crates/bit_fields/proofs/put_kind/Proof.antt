@@ -67,7 +67,7 @@ put-fixed-enum-requires : tie.Need-put-fixed-enum-requires
 put-fixed-enum-requires c κs = search needs
 
 returns : tie.Need-returns
-returns c = kind-reserved _ _ _ _ _ _ _ (search needs) (search needs)
+returns c = kind-reserved _ _ _ _ _ _ _ _ (search needs) (search needs)
 
 same-length : tie.Need-same-length
 same-length c = search needs

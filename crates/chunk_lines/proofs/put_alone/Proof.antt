@@ -1,5 +1,3 @@
--- `chunk_lines::put_alone` meets its contract, by the laws of proofs/Whole.
--- Assumes nothing.
 use Rattle.chunk_lines.proofs.Whole.{alone-skip, alone-read}
 use borrow.Author.Needs.{needs}
 use Rattle.chunk_lines.proofs.put_alone.Statement.{statement}

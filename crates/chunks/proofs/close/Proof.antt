@@ -46,7 +46,7 @@ returns c = search (all-closed, needs)
 
 returns-2 : tie.Need-returns-2
 returns-2 c =
-    all-wide _ _ _ _ _ _ _ (search needs) (c .before .before .before .get-cxx-scalar-type .ensures) _ _ (search needs) (search needs)
+    all-wide _ _ _ _ _ _ (search needs) (c .before .before .before .get-cxx-scalar-type .ensures) _ _ (search needs) (search needs)
     (c .too-wide .ensures)
 
 pub close-spec : {M : Type 1} → statement M

@@ -23,6 +23,9 @@ slice-aggregate-put-alone c = search needs
 put-alone-requires : tie.Need-put-alone-requires
 put-alone-requires c κs = search needs
 
+next-raw-requires : tie.Need-next-raw-requires
+next-raw-requires c κs = search needs
+
 closed-requires : tie.Need-closed-requires
 closed-requires c κs = search needs
 
@@ -40,7 +43,7 @@ returns c = search (alone-closed, needs)
 
 returns-2 : tie.Need-returns-2
 returns-2 c =
-    alone-wide _ _ _ _ _ _ _ (c .before .before .before .get-cxx-scalar-type .ensures) _ _ (search needs) (search needs)
+    alone-wide _ _ _ _ _ _ (c .before .before .before .get-cxx-scalar-type .ensures) _ _ (search needs) (search needs)
     (c .too-wide .ensures)
 
 pub close-alone-spec : {M : Type 1} → statement M
@@ -53,6 +56,7 @@ close-alone-spec =
     check-size-requires
     slice-aggregate-put-alone
     put-alone-requires
+    next-raw-requires
     closed-requires
     enum-told-2
     too-wide-requires

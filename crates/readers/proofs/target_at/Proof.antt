@@ -31,8 +31,8 @@ key-at-requires c κs = search needs
 enum-known-q : tie.Need-enum-known-q
 enum-known-q c = search needs
 
-trailing-at-requires : tie.Need-trailing-at-requires
-trailing-at-requires c κs = search needs
+optional-at-requires : tie.Need-optional-at-requires
+optional-at-requires c κs = search needs
 
 head-of-requires : tie.Need-head-of-requires
 head-of-requires c κs = search needs
@@ -52,8 +52,8 @@ key-at-requires-2 c κs = search needs
 enum-known-q-2 : tie.Need-enum-known-q-2
 enum-known-q-2 c = search needs
 
-trailing-at-requires-2 : tie.Need-trailing-at-requires-2
-trailing-at-requires-2 c κs = search needs
+optional-at-requires-2 : tie.Need-optional-at-requires-2
+optional-at-requires-2 c κs = search needs
 
 head-of-requires-2 : tie.Need-head-of-requires-2
 head-of-requires-2 c κs = search needs
@@ -79,14 +79,14 @@ target-at-spec =
     slice-aggregate-key-at
     key-at-requires
     enum-known-q
-    trailing-at-requires
+    optional-at-requires
     head-of-requires
     returns-2
     enum-told-2
     slice-aggregate-key-at-2
     key-at-requires-2
     enum-known-q-2
-    trailing-at-requires-2
+    optional-at-requires-2
     head-of-requires-2
     returns-3
     enum-told-3

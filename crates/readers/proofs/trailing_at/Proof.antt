@@ -1,7 +1,7 @@
 -- `readers::trailing_at` meets its contract, by the laws of Screens.
 -- Assumes nothing.
 use Rattle.definitions.specs.Record.{trailingAt}
-use Rattle.readers.proofs.Screens.{trailing-chain}
+use Rattle.readers.proofs.Screens.{line-chain}
 use borrow.Author.Needs.{needs}
 use Rattle.readers.proofs.trailing_at.Statement.{statement}
 use Rattle.readers.proofs.trailing_at.Tie as tie
@@ -17,7 +17,7 @@ enum-known-next c = search needs
 
 returns : tie.Need-returns
 unfolding trailingAt
-returns c = search (trailing-chain, needs)
+returns c = search (line-chain, needs)
 
 enum-told : tie.Need-enum-told
 enum-told c = search needs
@@ -33,14 +33,14 @@ enum-known-next-2 c = search needs
 
 returns-2 : tie.Need-returns-2
 unfolding trailingAt
-returns-2 c = search (trailing-chain, needs)
+returns-2 c = search (line-chain, needs)
 
 enum-told-2 : tie.Need-enum-told-2
 enum-told-2 c = search needs
 
 returns-3 : tie.Need-returns-3
 unfolding trailingAt
-returns-3 c = search (trailing-chain, needs)
+returns-3 c = search (line-chain, needs)
 
 pub trailing-at-spec : {M : Type 1} → statement M
 trailing-at-spec =

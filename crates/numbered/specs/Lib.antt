@@ -1,0 +1,4 @@
+pub mod Plainly
+pub mod Digits
+pub mod Faring
+pub mod Numbers
