@@ -22,7 +22,7 @@ use Rattle.bit_fields.specs.Kinds.{rawText, kindText}
 use Rattle.chunk_lines.specs.declared.Chunk.{Chunk}
 use Rattle.chunk_lines.specs.declared.Held.{Held}
 use Rattle.chunk_lines.specs.declared.WholeChunk.{WholeChunk}
-use Rattle.chunk_lines.specs.Bits.{isReservedAt, aloneOf, bitsOf, bitsText, headText, skipText, chunkOf, loneOf, Closed}
+use Rattle.chunk_lines.specs.Bits.{isReservedAt, aloneOf, bitsOf, bitsText, headText, skipText, chunkOf, Closed}
 use Rattle.chunk_lines.proofs.Fields.{same-reserved, skip-raws, bits-length, bits-skip, bits-widths}
 
 pub head-line : (order : EndiannessValue) (nr backing w : ℕ) {l l₁ l₂ l₃ : Text} {i r₁ r₂ r₃ : ℕ}
@@ -71,16 +71,16 @@ module _ (o : Options) (s word : Text) (raws width : ℕ) (kind : KindAt) {b : B
   width-is : width ≡ widths alone
   width-is = omega arith
 
-  pub alone-skip : b ≡ true → {l l₁ : Text} {i r : ℕ} → Put l i (skipText width) r l₁ → (nr : ℕ) → Put l i (chunkText o (loneOf nr raws alone)) r l₁
+  pub alone-skip : b ≡ true → {l l₁ : Text} {i r : ℕ} → Put l i (skipText width) r l₁ → (nr : ℕ) → Put l i (chunkText o (chunkOf nr raws alone)) r l₁
   unfolding skipText
-  alone-skip e p nr = like (ap skipText width-is ∙ sym (skip-text o (loneOf nr raws alone) (skip-is ∙ e))) p
+  alone-skip e p nr = like (ap skipText width-is ∙ sym (skip-text o (chunkOf nr raws alone) (skip-is ∙ e))) p
 
   abbrev textOf : ℕ → Text
   textOf k = kindText (o .arrays) s word (record { raw = o .raw; nr = raws }) (Source.Read (o .endianness) k) kind
 
-  pub alone-read : b ≡ false → {l l₁ : Text} {i r : ℕ} → Put l i (textOf width) r l₁ → (nr : ℕ) → Put l i (chunkText o (loneOf nr raws alone)) r l₁
+  pub alone-read : b ≡ false → {l l₁ : Text} {i r : ℕ} → Put l i (textOf width) r l₁ → (nr : ℕ) → Put l i (chunkText o (chunkOf nr raws alone)) r l₁
   unfolding kindText rawText
-  alone-read e p nr = like (ap textOf width-is ∙ sym (read-text o (loneOf nr raws alone) (skip-is ∙ e))) p
+  alone-read e p nr = like (ap textOf width-is ∙ sym (read-text o (chunkOf nr raws alone) (skip-is ∙ e))) p
 
 -- ---- a larger one
 
@@ -89,7 +89,7 @@ module _ (o : Options) (s word : Text) (c : Chunk) (kinds : List Held) (whole : 
   fields = bitsOf (o .arrays) s word c kinds (c .len)
 
   abbrev chunk : blocks.Chunk
-  chunk = chunkOf whole fields
+  chunk = chunkOf (whole .nr) (whole .raws) fields
 
   sum : whole .bits ≡ widths fields
   sum = z .sum ∙ sym (bits-widths (o .arrays) s word c kinds (c .len))

@@ -66,11 +66,8 @@ abbrev pub aloneOf : Arrays → Text → Text → ℕ → KindAt → List Bit
 aloneOf m s word width kind = record { shift = 0; width = width; kind = kindIn m s word kind } ∷ []
 
 -- the definitions' chunk of these fields
-abbrev pub chunkOf : WholeChunk → List Bit → blocks.Chunk
-chunkOf whole bs = record { nr = whole .nr; rawNr = whole .raws; fields = bs }
-
-abbrev pub loneOf : ℕ → ℕ → List Bit → blocks.Chunk
-loneOf nr raws bs = record { nr = nr; rawNr = raws; fields = bs }
+abbrev pub chunkOf : ℕ → ℕ → List Bit → blocks.Chunk
+chunkOf nr raws bs = record { nr = nr; rawNr = raws; fields = bs }
 
 -- ---- bytes
 

@@ -12,7 +12,7 @@ ghost use Rattle.definitions.specs.Bytes.{Text};
 ghost use Rattle.definitions.specs.Blocks.{Bit, rawsBehind};
 ghost use Rattle.text.specs.Put.{Put};
 ghost use Rattle.stream.specs.Stream.{chunkText};
-ghost use Rattle.chunk_lines.specs.Bits.{isReservedAt, nextRawAt, allReserved, Narrow, Fits, aloneOf, bitsOf, bitsText, headText, skipText, chunkOf, loneOf, Closed};
+ghost use Rattle.chunk_lines.specs.Bits.{isReservedAt, nextRawAt, allReserved, Narrow, Fits, aloneOf, bitsOf, bitsText, headText, skipText, chunkOf, Closed};
 
 // The shifts and the widths of its fields.
 pub struct Chunk {
@@ -175,7 +175,7 @@ pub fn put_alone<'a>(
     kind: KindAt,
 ) -> usize
     ensures { λ r. let bs : List Bit = aloneOf (options .arrays) (now (rec .entry)) (now (word .entry)) width kind in
-        ⌜ ((nr : ℕ) → Put (now (out .entry)) at (chunkText options (loneOf nr raws bs)) r (now (out .exit))) ⌝ }
+        ⌜ ((nr : ℕ) → Put (now (out .entry)) at (chunkText options (chunkOf nr raws bs)) r (now (out .exit))) ⌝ }
 {
     if is_reserved(kind) {
         return put_skip(out, at, width);
@@ -201,7 +201,8 @@ pub fn put_chunk<'a>(
 ) -> Written
     requires { ⌜ Closed c kinds whole × Fits whole ⌝ }
     ensures { λ r. let bs : List Bit = bitsOf (options .arrays) (now (rec .entry)) (now (word .entry)) c kinds (c .len) in
-        ⌜ Put (now (out .entry)) at (chunkText options (chunkOf whole bs)) (r .at) (now (out .exit)) × (r .raws ≡ rawsBehind (whole .raws) bs) ⌝ }
+        ⌜ Put (now (out .entry)) at (chunkText options (chunkOf (whole .nr) (whole .raws) bs)) (r .at) (now (out .exit))
+        × (r .raws ≡ rawsBehind (whole .raws) bs) ⌝ }
 {
     let bits = whole.bits;
     if whole.skip {

@@ -24,7 +24,7 @@ use Rattle.bit_fields.specs.declared.KindAt.{KindAt}
 use Rattle.chunk_lines.specs.declared.Chunk.{Chunk}
 use Rattle.chunk_lines.specs.declared.Held.{Held}
 use Rattle.chunk_lines.specs.declared.Written.{Written}
-use Rattle.chunk_lines.specs.Bits.{nextRawAt, allReserved, aloneOf, bitsOf, loneOf, Closed}
+use Rattle.chunk_lines.specs.Bits.{nextRawAt, allReserved, aloneOf, bitsOf, chunkOf, Closed}
 use Rattle.chunk_lines.proofs.Fields.{same-raw}
 use Rattle.chunks.specs.declared.State.{State}
 use Rattle.chunks.specs.declared.Step.{Step}
@@ -98,7 +98,7 @@ module _ (o : Options) (s : Text) (t : State) (width later : ℕ) (kind : KindAt
 
   pub alone-closed : (backing : ℕ) → y ≡ ScalarType.Bits backing → {out l₁ l₂ : Text} {at p z : ℕ}
       → Put out at (checkText (t .pending) ((width + later) / 8)) p l₁
-      → ((nr : ℕ) → Put l₁ p (chunkText o (loneOf nr (t .raws) bit)) z l₂) → {raws : ℕ} → raws ≡ nextRawAt (t .raws) kind
+      → ((nr : ℕ) → Put l₁ p (chunkText o (chunkOf nr (t .raws) bit)) z l₂) → {raws : ℕ} → raws ≡ nextRawAt (t .raws) kind
       → {r : Step} → r ≡ closedStep z (t .nr) raws → Alone out at r l₂
   alone-closed backing f {out} {l₁} {l₂} {at} a b k e =
       subst (λ (r : Step). Alone out at r l₂) (sym e)
@@ -132,7 +132,7 @@ module _ (o : Options) (s : Text) (t : State) (c : Chunk) (kinds : List Held) (l
   pub all-closed : (backing : ℕ) → y ≡ ScalarType.Bits backing → {skip : Bool} → skip ≡ allReserved kinds (c .len)
       → {out l₁ l₂ : Text} {at p nr : ℕ} {v : Written}
       → Put out at (checkText (t .pending) ((t .shift + later) / 8)) p l₁
-      → Put l₁ p (chunkText o (loneOf (t .nr) (t .raws) bits)) (v .at) l₂ × (v .raws ≡ rawsBehind (t .raws) bits)
+      → Put l₁ p (chunkText o (chunkOf (t .nr) (t .raws) bits)) (v .at) l₂ × (v .raws ≡ rawsBehind (t .raws) bits)
       → nr ≡ nextBy skip (t .nr) → {r : Step} → r ≡ closedStep (v .at) nr (v .raws) → All out at r l₂
   all-closed backing f k {out} {l₁} {l₂} {at} a b n e =
       subst (λ (r : Step). All out at r l₂) (sym e)
