@@ -8,8 +8,8 @@ use native.Mathlib.Nat.{pow-zero, pow-suc, pow-le-pow-right, div-lt-iff-lt-mul}
 use native.Mathlib.Omega.{arith}
 use lib.Dec.{ltb}
 use lib.ListN.{drop}
-use borrow.Author.Tests.{lt-ltb, ltb-true, ltb-false}
-use Rattle.definitions.specs.Bytes.{Text, pick, digit, digitsIn, decimal}
+use borrow.Author.Tests.{lt-ltb, ltb-true}
+use Rattle.definitions.specs.Bytes.{Text, pick, digit, digitsIn}
 use Rattle.definitions.specs.Blocks.{rawName}
 use Rattle.definitions.specs.declared.Raw.{Raw}
 

@@ -13,12 +13,11 @@ use Rattle.definitions.specs.Record.{Declaration, recordIs, readRecord}
 use Rattle.definitions.specs.Sizes.{newSchema}
 use Rattle.definitions.specs.Lines.{render}
 use Rattle.definitions.specs.Blocks.{Block, program}
-use Rattle.definitions.specs.FieldParser.{Outcome, refused, accepted}
-use Rattle.definitions.specs.Answer.{Lowered, turnedBack, fitted, lowered, lower, lowerRecord, answerRead, wrongLength, answer}
+use Rattle.definitions.specs.FieldParser.{Outcome, accepted}
+use Rattle.definitions.specs.Answer.{Lowered, turnedBack, fitted, lowered, lower, wrongLength, answer}
 use Rattle.definitions.specs.declared.Raw.{Raw}
 use Rattle.definitions.specs.declared.Head.{Head}
 use Rattle.definitions.specs.declared.Refusal.{Refusal}
-use Rattle.lengths.proofs.Booleans.{impossible}
 use Rattle.meaning.proofs.Entries.{has-record}
 use Rattle.meaning.proofs.Printed.{lines-printed}
 use Rattle.alike.specs.Without.{withoutRaw}
