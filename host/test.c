@@ -1,7 +1,7 @@
 /*
  * Tests the exported function from C: the marked cases P1 to P13 of document 01, records that are empty, cut or damaged, names that are
- * keywords of C++ (16), lines `bits` (17), the head lines `trailing` and `raw`, buffers of every relevant size, and the cases of the
- * stored sample, which the judge answered (oracle/README.md, 'Cases').
+ * keywords of C++ (16), lines `bits` (17), the head lines `trailing`, `raw` and `products`, buffers of every relevant size, and the cases
+ * of the stored sample, which the judge answered (oracle/README.md, 'Cases').
  *   test SAMPLE
  * The last line is 'N passed, M failed'; the exit status is 0 if nothing failed.
  */
@@ -404,7 +404,7 @@ static const char *const no_trailing[] = {
     "trailing=padded\r\n", "trailing=padde\n", "trailing=paddedd\n", "trailing=plain0\n", "trailing=0\n", "trailing=plainpadded\n",
     "Trailing=padded\n", "trailin=padded\n", "trailings=padded\n", " trailing=padded\n", "trailing =padded\n", "trailing==padded\n",
     "trailing:padded\n", "trailing\n", "padded\n", "trailing=padded", "\n" PADDED, PADDED "\n", PLAIN PLAIN, PADDED PADDED, PLAIN PADDED,
-    PADDED PLAIN, PADDED "arrays=lite\n", "raw=padded\n", "products=plain\n", "raw=plain\n" PADDED,
+    PADDED PLAIN, PADDED "arrays=lite\n", "raw=padded\n", "products=padded\n", "raw=plain\n" PADDED, "products=plain\n" PADDED,
 };
 
 static const struct {
@@ -503,6 +503,7 @@ static void test_trailing(void)
 
 /* ---- the numbers of tested enums: the head line `raw` of document 02 */
 
+#define FULL_HEAD "endian=big\ntarget=Lamp\narrays=full\n"
 #define RAW_PLAIN "raw=plain\n"
 #define NUMBERED "raw=numbered\n"
 #define ENUM(name, width, open, complete) "decl=enum\nname=" name "\nwidth=" width "\nopen=" open "\ncomplete=" complete "\n"
@@ -606,7 +607,7 @@ static const char *const no_raw[] = {
     " raw=numbered\n", "raw =numbered\n", "raw==numbered\n", "raw:numbered\n", "raw\n", "numbered\n", "trailing=numbered\n", "raw=numbered",
     "\n" NUMBERED, NUMBERED "\n", RAW_PLAIN RAW_PLAIN, NUMBERED NUMBERED, RAW_PLAIN NUMBERED, NUMBERED RAW_PLAIN, RAW_PLAIN PLAIN, NUMBERED PADDED,
     PADDED NUMBERED PADDED, PADDED NUMBERED NUMBERED, PADDED "raw=Numbered\n", PADDED "\n" NUMBERED, NUMBERED "arrays=lite\n",
-    NUMBERED "products=plain\n", "products=plain\n" NUMBERED,
+    NUMBERED "products=numbered\n", "products=plain\n" NUMBERED,
 };
 
 static const struct {
@@ -651,7 +652,6 @@ static void test_raws(void)
     test_long_line(PADDED NUMBERED);
 
     /* full mode: an array has its own block */
-#define FULL_HEAD "endian=big\ntarget=Lamp\narrays=full\n"
 #define FULL_OCTET "span.read_be<uint8_t, 1>()"
     expect_answer(FULL_HEAD NUMBERED MODE LAMP TYPEDEF("a", "Mode") ARRAY_OF("x", "Mode", "2") TYPEDEF("b", "Mode"), 0,
                   CHECK("1") TESTED("output->a", "Mode", "0", FULL_OCTET) CHECK("2") "for (size_t n = 0; n < 2; n++) {\n    auto raw_value = " FULL_OCTET
@@ -665,6 +665,160 @@ static void test_raws(void)
     expect_answer(HEAD NUMBERED MODE LAMP "bits=8\n" TYPEDEF("a", "Mode") TYPEDEF("b", "Mode"), 17, "", "a wrong size,", NUMBERED);
     expect_answer(HEAD NUMBERED MODE LAMP "bits=16\n" TYPEDEF("a", "Mode") TYPEDEF("b", "Mode"), 0, TWO(WITH), "a right size,", NUMBERED);
     expect_answer(HEAD NUMBERED MODE LAMP TYPEDEF("a", "Mode") SCALAR("y", "4"), 10, "", "an open chunk,", NUMBERED);
+}
+
+/* ---- checks by a division: the head line `products` of document 02 */
+
+#define PRODUCTS_PLAIN "products=plain\n"
+#define DIVIDE "products=divide\n"
+#define SIZE_OF(key, width) "field=" key "\nof=a\nwidth=" width "\nif=-\n"
+#define COUNT_32 SIZE_OF("count", "32")
+#define ELEMENT_32 SIZE_OF("elemsize", "32")
+#define TRIPLE "decl=struct\nname=Triple\nparent=-\n" SCALAR("t", "24")
+#define ASK(test) "if (" test ") {\n    return false;\n}\n"
+
+/* A check on a * b, by their product and by a division: the `by` of the lines below. */
+#define MULTIPLIED(a, b) ASK("span.size() < " a " * " b)
+#define DIVIDED(a, b) ASK(a " != 0 && span.size() / " a " < " b)
+
+#define READ_32(x) x " = span.read_le<uint32_t, 4>();\n"
+#define FULL_READ_32(x) "output->" x " = span.read_be<uint32_t, 4>();\n"
+#define CUT(amount) "a_ = span.subrange(0, " amount ");\nspan.skip(" amount ");\n"
+#define OF_BYTES(by, bytes) CHECK("4") READ_32("a_count_") by(bytes, "a_count_") CUT(bytes " * a_count_")
+#define OF_TWO(by) OF_BYTES(by, "2")
+#define OF_ONE(by) OF_BYTES(by, "1")
+#define OF_THREE(by) OF_BYTES(by, "3")
+#define NOT_ZERO ASK("a_element_size_ == 0")
+#define FIVE_TIMES(by) CHECK("4") READ_32("a_element_size_") NOT_ZERO by("a_element_size_", "5") CUT("a_element_size_ * 5")
+#define COUNTED(by) \
+    CHECK("8") READ_32("a_element_size_") READ_32("a_count_") NOT_ZERO by("a_element_size_", "a_count_") CUT("a_element_size_ * a_count_")
+#define PADDED_TWO(by) \
+    CHECK("4") READ_32("a_count_") "size_t a_start_size = span.size();\n" by("2", "a_count_") CUT("2 * a_count_") \
+        "if (a_start_size - span.size() < 8) {\n    if (span.size() < 8 - (a_start_size - span.size())) return false;\n" \
+        "    span.skip(8 - (a_start_size - span.size()));\n}\n"
+#define FULL_TWO(by) \
+    CHECK("4") FULL_READ_32("a_count_") by("2", "output->a_count_") \
+        "for (size_t n = 0; n < output->a_count_; n++) {\n    output->a_.push_back(span.read_be<uint16_t, 2>());\n}\n"
+#define EACH(count) \
+    "for (size_t n = 0; n < " count "; n++) {\n    auto element_span = span.subrange(n * output->a_element_size_, output->a_element_size_);\n" \
+    "    Blob out;\n    if (!Blob::Parse(element_span, &out)) {\n        return false;\n    }\n    output->a_[n] = out;\n}\n" \
+    "span.skip(output->a_element_size_ * " count ");\n"
+#define FULL_FIVE_TIMES(by) CHECK("4") FULL_READ_32("a_element_size_") by("output->a_element_size_", "5") EACH("5")
+#define FULL_COUNTED(by) \
+    CHECK("8") FULL_READ_32("a_element_size_") FULL_READ_32("a_count_") by("output->a_element_size_", "output->a_count_") EACH("output->a_count_")
+#define OF_A_NUMBER(by) CHECK("6") CUT("6")
+#define OF_A_SIZE(by) CHECK("4") READ_32("a_size_") CHECK("a_size_") ASK("(a_size_ % 2) != 0") CUT("a_size_")
+
+/* Fields behind the first three lines of a head, and their lines with the line absent or plain, and with divide. */
+static const struct {
+    const char *label, *head, *fields, *plain, *divide;
+} products[] = {
+    {"a count of 2 bytes", HEAD, COUNT_32 ARRAY("a", "16", "-"), OF_TWO(MULTIPLIED), OF_TWO(DIVIDED)},
+    {"a count of 1 byte", HEAD, COUNT_32 ARRAY("a", "8", "-"), OF_ONE(MULTIPLIED), OF_ONE(DIVIDED)},
+    {"a count of 3 bytes", HEAD, COUNT_32 ARRAY_OF("a", "Triple", "-"), OF_THREE(MULTIPLIED), OF_THREE(DIVIDED)},
+    {"an element size, 5 times", HEAD, ELEMENT_32 ARRAY_OF("a", "Blob", "5"), FIVE_TIMES(MULTIPLIED), FIVE_TIMES(DIVIDED)},
+    {"an element size and a count", HEAD, ELEMENT_32 COUNT_32 ARRAY_OF("a", "Blob", "-"), COUNTED(MULTIPLIED), COUNTED(DIVIDED)},
+    {"a padded array", HEAD, COUNT_32 ARRAY("a", "16", "-") PADDING("8"), PADDED_TWO(MULTIPLIED), PADDED_TWO(DIVIDED)},
+    {"a count of 2 bytes, full", FULL_HEAD, COUNT_32 ARRAY("a", "16", "-"), FULL_TWO(MULTIPLIED), FULL_TWO(DIVIDED)},
+    {"an element size, 5 times, full", FULL_HEAD, ELEMENT_32 ARRAY_OF("a", "Blob", "5"), FULL_FIVE_TIMES(MULTIPLIED), FULL_FIVE_TIMES(DIVIDED)},
+    {"an element size and a count, full", FULL_HEAD, ELEMENT_32 COUNT_32 ARRAY_OF("a", "Blob", "-"), FULL_COUNTED(MULTIPLIED),
+     FULL_COUNTED(DIVIDED)},
+    {"a fixed count of 2 bytes", HEAD, ARRAY("a", "16", "3"), OF_A_NUMBER(MULTIPLIED), OF_A_NUMBER(DIVIDED)},
+    {"a byte size", HEAD, SIZE_OF("size", "32") ARRAY("a", "16", "-"), OF_A_SIZE(MULTIPLIED), OF_A_SIZE(DIVIDED)},
+    {"no array", HEAD, SCALAR("x", "8"), CHECK("1") "x_ = " OCTET ";\n", CHECK("1") "x_ = " OCTET ";\n"},
+};
+
+static const char *const multiplied_heads[] = {"", PRODUCTS_PLAIN, PADDED PRODUCTS_PLAIN, NUMBERED PRODUCTS_PLAIN, PADDED NUMBERED PRODUCTS_PLAIN};
+static const char *const divided_heads[] = {DIVIDE, PLAIN DIVIDE, PADDED DIVIDE, RAW_PLAIN DIVIDE, NUMBERED DIVIDE, PADDED NUMBERED DIVIDE};
+
+static void test_product_lines(size_t i, const char *const heads[], size_t n, const char *text)
+{
+    for (size_t k = 0; k < n; k++) {
+        char record[1024];
+        snprintf(record, sizeof record, "%s%s" BLOB TRIPLE LAMP "%s", products[i].head, heads[k], products[i].fields);
+        expect_answer(record, 0, text, products[i].label, *heads[k] == 0 ? "no line" : heads[k]);
+    }
+}
+
+/* A record with the line, cut behind each byte of it and of what follows; and with each of its bytes damaged. */
+static void test_cut_products(void)
+{
+    static const char whole[] = HEAD PADDED NUMBERED DIVIDE BLOB LAMP PADDING("2");
+    static const char head[] = HEAD PADDED NUMBERED, no_target[] = HEAD PADDED NUMBERED DIVIDE BLOB;
+    static const char no_field[] = HEAD PADDED NUMBERED DIVIDE BLOB LAMP;
+    for (size_t length = strlen(head); length < strlen(whole); length++) {
+        uint32_t answer = length == strlen(no_target) ? 9 : length == strlen(no_field) ? 0 : 2;
+        expect(gives_in_every_room((const uint8_t *)whole, length, answer, (const uint8_t *)"", 0), "products=divide, cut behind %zu bytes", length);
+    }
+    for (size_t i = strlen(head); i < strlen(HEAD PADDED NUMBERED DIVIDE); i++) {
+        uint8_t record[sizeof whole];
+        memcpy(record, whole, sizeof whole);
+        record[i] = 255;
+        expect(gives(record, strlen(whole), RUPHWENQO_LINES_ROOM, 2, record, 0), "products=divide with byte %zu damaged", i);
+    }
+}
+
+static const char *const no_products[] = {
+    "products=\n", "products=-\n", "products=Plain\n", "products=Divide\n", "products=DIVIDE\n", "products= divide\n", "products=divide \n",
+    "products=divide\r\n", "products=divid\n", "products=dividee\n", "products=divided\n", "products=plain0\n", "products=0\n",
+    "products=plaindivide\n", "products=padded\n", "products=numbered\n", "Products=divide\n", "product=divide\n", "productss=divide\n",
+    " products=divide\n", "products =divide\n", "products==divide\n", "products:divide\n", "products\n", "divide\n", "trailing=divide\n",
+    "raw=divide\n", "products=divide", "\n" DIVIDE, DIVIDE "\n", PRODUCTS_PLAIN PRODUCTS_PLAIN, DIVIDE DIVIDE, PRODUCTS_PLAIN DIVIDE,
+    DIVIDE PRODUCTS_PLAIN, PRODUCTS_PLAIN RAW_PLAIN, DIVIDE NUMBERED, PRODUCTS_PLAIN PLAIN, DIVIDE PADDED, PADDED DIVIDE NUMBERED,
+    NUMBERED PADDED DIVIDE, PADDED NUMBERED DIVIDE DIVIDE, PADDED NUMBERED "products=Divide\n", NUMBERED "\n" DIVIDE, DIVIDE "arrays=lite\n",
+    DIVIDE "bits=0\n",
+};
+
+static const struct {
+    const char *place, *record;
+} no_products_places[] = {
+    {"first", DIVIDE HEAD LAMP},
+    {"before target", "endian=little\n" DIVIDE "target=Lamp\narrays=lite\n" LAMP},
+    {"before arrays", "endian=little\ntarget=Lamp\n" DIVIDE "arrays=lite\n" LAMP},
+    {"in place of arrays", "endian=little\ntarget=Lamp\n" DIVIDE LAMP},
+    {"before name", HEAD "decl=packet\n" DIVIDE "name=Lamp\nparent=-\n"},
+    {"before parent", HEAD "decl=packet\nname=Lamp\n" DIVIDE "parent=-\n"},
+    {"behind parent", HEAD LAMP DIVIDE},
+    {"behind bits", HEAD LAMP "bits=0\n" DIVIDE},
+    {"behind a custom", HEAD BLOB DIVIDE LAMP},
+    {"inside a field", HEAD LAMP "field=body\n" DIVIDE "if=-\n"},
+    {"behind a field", HEAD LAMP "field=body\nif=-\n" DIVIDE},
+    {"before a second declaration", HEAD LAMP DIVIDE CELL},
+    {"in the head and at the end", HEAD DIVIDE LAMP DIVIDE},
+    {"before no declaration", HEAD DIVIDE},
+};
+
+static void test_products(void)
+{
+    for (size_t i = 0; i < LENGTH(products); i++) {
+        test_product_lines(i, multiplied_heads, LENGTH(multiplied_heads), products[i].plain);
+        test_product_lines(i, divided_heads, LENGTH(divided_heads), products[i].divide);
+    }
+    test_cut_products();
+    for (size_t i = 0; i < LENGTH(no_products); i++) {
+        char record[256];
+        snprintf(record, sizeof record, HEAD "%s" LAMP, no_products[i]);
+        expect_answer(record, 2, "", "a head with", no_products[i]);
+    }
+    for (size_t i = 0; i < LENGTH(no_products_places); i++)
+        expect_answer(no_products_places[i].record, 2, "", "a line `products`", no_products_places[i].place);
+    test_long_line(PRODUCTS_PLAIN);
+    test_long_line(DIVIDE);
+    test_long_line(PADDED NUMBERED DIVIDE);
+
+    /* the numbers of tested enums beside it */
+    expect_answer(HEAD NUMBERED DIVIDE MODE LAMP TYPEDEF("x", "Mode") COUNT_32 ARRAY("a", "16", "-") TYPEDEF("y", "Mode"), 0,
+                  CHECK("5") TESTED("x", "Mode", "0", OCTET) READ_32("a_count_") DIVIDED("2", "a_count_") CUT("2 * a_count_") CHECK("1")
+                      TESTED("y", "Mode", "1", OCTET),
+                  "tested enums around an array,", NUMBERED DIVIDE);
+
+    /* 2 before 16 and 17, and these as ever */
+    expect_answer(HEAD "products=Divide\n" LAMP SCALAR("int", "8"), 2, "", "another word", "and a keyword");
+    expect_answer(HEAD DIVIDE LAMP SCALAR("int", "8"), 16, "", "a keyword,", DIVIDE);
+    expect_answer(HEAD DIVIDE LAMP "bits=32\n" COUNT_32 ARRAY("a", "16", "-"), 17, "", "a wrong size,", DIVIDE);
+    expect_answer(HEAD DIVIDE LAMP "bits=dynamic\n" COUNT_32 ARRAY("a", "16", "-"), 0, OF_TWO(DIVIDED), "a right size,", DIVIDE);
+    expect_answer(HEAD DIVIDE LAMP COUNT_32 SCALAR("y", "4") ARRAY("a", "16", "-"), 10, "", "an open chunk,", DIVIDE);
+    expect_answer(HEAD DIVIDE LAMP PAYLOAD COUNT_32 ARRAY("a", "16", "-"), 14, "", "behind a payload,", DIVIDE);
 }
 
 /* ---- the stored sample */
@@ -742,6 +896,7 @@ int main(int argc, char **argv)
     test_sizes();
     test_trailing();
     test_raws();
+    test_products();
     test_sample(sample, size);
     free(sample);
     printf("%u passed, %u failed\n", passed, failed);

@@ -24,7 +24,8 @@ extern "C" {
  * The number is the answer times 2^32 plus the length.
  *   answer 0       the lines, with a newline behind each, are the first `length` bytes of out; the bytes behind them are unchanged.
  *                  There is no 0 byte at the end. A length of 0 is an accepted record that has no lines. Two bit fields of closed enums
- *                  compile only with the head line `raw=numbered`: docs/RECORD.md, 'raw'.
+ *                  compile only with the head line `raw=numbered`: docs/RECORD.md, 'raw'. Counts and element sizes of 32 bits or more
+ *                  want the head line `products=divide`, or a frame can take its parser past its end: docs/RECORD.md, 'products'.
  *   answer 1 to 17 the first refusal that the record meets; the length is 0 and no byte of out is changed. They are tested in the order
  *                  1, 2, 16, 3 to 8, 17, 9, each over the whole record, then 10 to 14 field by field, 15 last:
  *

@@ -1,13 +1,15 @@
 //! The answer to any byte string: our refusals 1 to 9, 16 and 17, then what the published Rust gives; for
-//! `trailing=padded` what it gives where later arrays count as document 02 (Card 3) says, and for
-//! `raw=numbered` what it gives with the numbers of Card 7 in it.
+//! `trailing=padded` what it gives where later arrays count as document 02 (Card 3) says, for
+//! `raw=numbered` what it gives with the numbers of Card 7 in it, and for `products=divide` with the
+//! divisions of Card 8.
 
 use crate::analyzer::{Schema, Scope};
 use crate::backends::{cxx, cxx_padded};
+use crate::divided;
 use crate::numbered;
 use crate::panics::Panic;
 use crate::published;
-use crate::record::{Decl, Raw, Record, Trailing};
+use crate::record::{Decl, Products, Raw, Record, Trailing};
 use crate::refusals::{self, Refusal};
 use crate::sizes::Tables;
 
@@ -46,11 +48,22 @@ pub fn lines_of(record: &Record) -> Answer {
         Some(Trailing::Padded) => cxx_padded::field_parser::lines,
     };
     match lines(&scope, &schema, record.arrays, target) {
-        Ok(code) => match record.raw {
-            None | Some(Raw::Plain) => Ok(joined(&code)),
-            Some(Raw::Numbered) => Ok(joined(&numbered::lines(record, &code))),
-        },
+        Ok(code) => Ok(joined(&with_divisions(record, with_numbers(record, code)))),
         Err(panic) => Err(of_panic(record, panic)),
+    }
+}
+
+fn with_numbers(record: &Record, plain: Vec<String>) -> Vec<String> {
+    match record.raw {
+        None | Some(Raw::Plain) => plain,
+        Some(Raw::Numbered) => numbered::lines(record, &plain),
+    }
+}
+
+fn with_divisions(record: &Record, plain: Vec<String>) -> Vec<String> {
+    match record.products {
+        None | Some(Products::Plain) => plain,
+        Some(Products::Divide) => divided::lines(record, &plain),
     }
 }
 

@@ -3,11 +3,12 @@
 
 use crate::analyzer::{self, ArraySize, ElementSize, Schema, Scope};
 use crate::answer::{self, Answer};
+use crate::divided;
 use crate::keywords::is_like_a_keyword;
 use crate::numbered;
 use crate::published;
 use crate::record::{
-    Arrays, Decl, DeclDesc, Element, Endian, Field, FieldDesc, Raw, Record, Stated, Trailing,
+    Arrays, Decl, DeclDesc, Element, Endian, Field, FieldDesc, Products, Raw, Record, Stated, Trailing,
 };
 use crate::sizes::{unpadded, DeclSizes, Size, Tables};
 use std::collections::BTreeSet;
@@ -20,6 +21,7 @@ pub fn features(bytes: &[u8], answer: &Answer) -> BTreeSet<String> {
             let record = Record::read(bytes).expect("it was accepted");
             of_accepted(&record, lines, &mut found);
             found.extend(raws(&record, &String::from_utf8_lossy(lines)));
+            found.extend(products(&record, &String::from_utf8_lossy(lines)));
             found.extend(trailing(record, lines));
         }
         Err(refusal) => {
@@ -250,6 +252,45 @@ fn raws(record: &Record, lines: &str) -> Vec<String> {
     ];
     let notes = notes.into_iter().filter_map(|(holds, note)| holds.then(|| format!("{word}: {note}")));
     notes.chain([word.to_string()]).collect()
+}
+
+/// The line `products` of an accepted record: how many checks are by a division, on which factors, and what stands beside.
+fn products(record: &Record, lines: &str) -> Vec<String> {
+    let word = match record.products {
+        None => return Vec::new(),
+        Some(Products::Plain) => return vec!["products plain".to_string()],
+        Some(Products::Divide) => "products divide",
+    };
+    let factors: Vec<(&str, &str)> = lines.lines().filter_map(divided::factors).collect();
+    let is_number = |factor: &str| factor.starts_with(|first: char| first.is_ascii_digit());
+    let any = |is: &dyn Fn(&str, &str) -> bool| factors.iter().any(|(size, count)| is(size, count));
+    let reads = |bytes: &str| {
+        lines.lines().any(|line| line.contains("_count_ = ") && line.ends_with(&format!("_t, {bytes}>();")))
+    };
+    let notes = [
+        (factors.is_empty(), "no division"),
+        (factors.len() == 1, "one division"),
+        ((2..=10).contains(&factors.len()), "2 to 10 divisions"),
+        (factors.len() > 10, "more than 10 divisions"),
+        (any(&|size, _| is_number(size)), "a number and a count"),
+        (any(&|size, _| size == "1"), "1 and a count"),
+        (any(&|size, count| !is_number(size) && is_number(count)), "a variable and a number"),
+        (any(&|size, count| !is_number(size) && count == "0"), "a variable and 0"),
+        (any(&|size, count| !is_number(size) && !is_number(count)), "a variable and a count"),
+        (!factors.is_empty() && reads("4"), "a count of 32 bits"),
+        (!factors.is_empty() && reads("8"), "a count of 64 bits"),
+        (!factors.is_empty() && lines.contains("_start_size = "), "a padded array"),
+        (!factors.is_empty() && lines.lines().any(is_other_check), "another check of an array"),
+        (!factors.is_empty() && record.trailing == Some(Trailing::Padded), "and trailing padded"),
+        (!factors.is_empty() && record.raw == Some(Raw::Numbered), "and raw numbered"),
+    ];
+    let notes = notes.into_iter().filter_map(|(holds, note)| holds.then(|| format!("{word}: {note}")));
+    notes.chain([word.to_string()]).collect()
+}
+
+/// On a byte size.
+fn is_other_check(line: &str) -> bool {
+    line.starts_with("if (span.size() < ") && line.ends_with("_size_) {")
 }
 
 /// The shapes of the target's arrays, alone and with their kind of element.

@@ -1,10 +1,11 @@
 //! Records by chance, from a seed. They follow the grammar of document 01 and lean towards
 //! acceptance: runs mostly fill whole octets, names are few so that fields really name each other.
 //! No name is a keyword of C++ but in the flavour that is about names, no line `bits` stands but in
-//! the one that is about sizes as they are stated, and no line `trailing` and `raw` but in those that are
-//! about these; where all four meet, the others stand seldom.
+//! the one that is about sizes as they are stated, and no line `trailing`, `raw` and `products` but in those
+//! that are about these; where all five meet, the first two stand seldom.
 
 use crate::damage;
+use crate::divides;
 use crate::names;
 use crate::random::Random;
 use crate::raws;
@@ -32,11 +33,14 @@ pub enum Flavour {
     /// without the line `trailing`, with either word, or with a broken one. It stands behind the others too.
     Trailing,
     /// Closed enums in bit fields, arrays and optional fields, and the others of document 01, under a head without the
-    /// line `raw`, with either word, or with a broken one; also beside a line `trailing`. It stands last.
+    /// line `raw`, with either word, or with a broken one; also beside a line `trailing`. It stands behind the others too.
     Raws,
+    /// Arrays of every shape with large counts, and the others of document 01, under a head without the line `products`,
+    /// with either word, or with a broken one; also beside lines `trailing` and `raw`. It stands last.
+    Divides,
 }
 
-pub const FLAVOURS: [(&str, Flavour); 8] = [
+pub const FLAVOURS: [(&str, Flavour); 9] = [
     ("small", Flavour::Small),
     ("mixed", Flavour::Mixed),
     ("damaged", Flavour::Damaged),
@@ -45,6 +49,7 @@ pub const FLAVOURS: [(&str, Flavour); 8] = [
     ("stated", Flavour::Stated),
     ("trailing", Flavour::Trailing),
     ("raws", Flavour::Raws),
+    ("divides", Flavour::Divides),
 ];
 
 /// The records of a seed, one after the other.
@@ -66,6 +71,7 @@ fn record(flavour: Flavour, random: &mut Random) -> Vec<u8> {
         Flavour::Stated => with_sizes(random),
         Flavour::Trailing => with_trailing(random),
         Flavour::Raws => with_raws(random),
+        Flavour::Divides => with_divides(random),
     }
 }
 
@@ -146,6 +152,32 @@ fn with_raws(random: &mut Random) -> Vec<u8> {
     }
     if !line.is_empty() && random.once_in(8) {
         raws::break_line(&mut lines, random);
+    }
+    if random.once_in(24) {
+        return damage::damaged(lines, random);
+    }
+    sketch::joined(&lines)
+}
+
+fn with_divides(random: &mut Random) -> Vec<u8> {
+    let mut whole = match random.below(16) {
+        0 => mixed(random),
+        1 | 2 => small(random),
+        3 => trailing::sketch(random),
+        4 => raws::sketch(random),
+        _ => divides::sketch(random),
+    };
+    let trailing = random.pick(&["", "", " plain", " padded"]);
+    let raw = random.pick(&["", "", " raw=plain", " raw=numbered"]);
+    let line =
+        random.pick(&["", " products=plain", " products=divide", " products=divide", " products=divide"]);
+    whole.head += &format!("{trailing}{raw}{line}");
+    let mut lines = if random.once_in(12) { stated::lines(&whole, random) } else { whole.lines() };
+    if random.once_in(32) {
+        names::rename(&mut lines, random);
+    }
+    if !line.is_empty() && random.once_in(8) {
+        divides::break_line(&mut lines, random);
     }
     if random.once_in(24) {
         return damage::damaged(lines, random);

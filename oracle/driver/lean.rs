@@ -1,5 +1,5 @@
 //! The quickest way from an accepted record to the published types, for timing: it tests nothing. The timed
-//! records have no line `trailing` and no line `raw`.
+//! records have no line `trailing`, `raw` or `products`.
 
 use crate::analyzer::{Schema, Scope};
 use crate::ast;

@@ -17,6 +17,8 @@ mod cases;
 #[cfg(port)]
 mod compare;
 mod damage;
+mod divided;
+mod divides;
 mod families;
 mod features;
 mod generate;
@@ -26,6 +28,7 @@ mod later;
 mod lean;
 mod marked;
 mod marked_bits;
+mod marked_divides;
 mod marked_raws;
 mod marked_trailing;
 mod names;
@@ -63,9 +66,10 @@ judge keywords > CASES               the marked cases of refusal 16, each of its
 judge bits > CASES                   the marked cases of refusal 17: sizes, order, form and length
 judge trailing > CASES               the marked cases of the line `trailing`: what counts, order, form and length
 judge raws > CASES                   the marked cases of the line `raw`: the numbers, names, order, form and length
+judge divides > CASES                the marked cases of the line `products`: the checks, order, form and length
 judge generate SEED COUNT FLAVOUR > CASES
                                      cases by chance: small, mixed, damaged, sizes, names, stated,
-                                     trailing or raws
+                                     trailing, raws or divides
 judge select EACH < CASES > CASES    those with a feature that fewer than EACH of document 01's
                                      marked cases and those chosen before show
 judge replay < CASES                 whether the stored answers are the judge's
@@ -94,6 +98,7 @@ fn main() -> Outcome {
         ["bits"] => write_cases(marked_bits::records()),
         ["trailing"] => write_cases(marked_trailing::records()),
         ["raws"] => write_cases(marked_raws::records()),
+        ["divides"] => write_cases(marked_divides::records()),
         ["generate", seed, count, flavour] => {
             write_cases(generate::records(named(flavour)?, seed.parse()?, count.parse()?))
         }
@@ -251,6 +256,7 @@ fn compare_port(seed: u64, count: usize) -> Outcome {
         marked_bits::records(),
         marked_trailing::records(),
         marked_raws::records(),
+        marked_divides::records(),
     ];
     let marked = marked::records().into_iter().chain(of_requests.into_iter().flatten());
     for record in marked.chain(generated) {

@@ -1,6 +1,6 @@
 //! The marked cases of the head's line `raw` (document 02, Card 7): which variables have a number, and which; where
 //! nothing changes; the order among the refusals; the form; and the record's length. They are a list of their own, which
-//! stands behind all others in the stored sample.
+//! stands behind those of `trailing` in the stored sample.
 
 use crate::answer::{answer, Answer};
 use crate::generate::BLOCK;
@@ -731,41 +731,41 @@ fn forms() -> Vec<Vec<u8>> {
     let mut all: Vec<Vec<u8>> = modes.map(|shorthand| answered(0, record(&shorthand))).collect();
     all.extend(BAD_VALUES.iter().map(|value| answered(2, with(&format!("raw={value}\n")))));
     all.extend(BAD_STARTS.iter().map(|start| answered(2, with(&format!("{start}numbered\n")))));
-    all.extend(BAD_LINES.iter().map(|lines| answered(2, with(lines))));
+    all.extend(LINES.iter().map(|(number, lines)| answered(*number, with(lines))));
     all.extend(BAD_PLACES.iter().map(|whole| answered(2, whole.as_bytes().to_vec())));
     all
 }
 
-/// Twice, before `trailing`, with a line of a request that has not landed, without a newline, with one too many, and at
-/// the end.
-const BAD_LINES: &[&str] = &[
-    "raw=plain\nraw=plain\n",
-    "raw=numbered\nraw=numbered\n",
-    "raw=plain\nraw=numbered\n",
-    "raw=numbered\nraw=plain\n",
-    "raw=plain\ntrailing=plain\n",
-    "raw=numbered\ntrailing=padded\n",
-    "trailing=plain\nraw=numbered\ntrailing=plain\n",
-    "trailing=padded\nraw=numbered\nraw=numbered\n",
-    "trailing=plain\nraw=Plain\n",
-    "trailing=padded\nraw=padded\n",
-    "trailing=numbered\nraw=numbered\n",
-    "trailing=padded\n\nraw=numbered\n",
-    "trailing=padded raw=numbered\n",
-    "trailing=paddedraw=numbered\n",
-    "raw=numbered\nproducts=plain\n",
-    "raw=numbered\nproducts=divide\n",
-    "products=plain\nraw=numbered\n",
-    "raw=numbered\nbits=8\n",
-    "raw=numbered\narrays=lite\n",
-    "raw=numbered\nfield=body\nif=-\n",
-    "raw=numbered",
-    "raw=plain",
-    "\nraw=numbered\n",
-    "raw=numbered\n\n",
-    "raw=numbered\r\n",
-    "raw=num\nbered\n",
-    "raw\n=numbered\n",
+/// Their answers: twice, before `trailing`, beside the line `products`, which stands behind it, without a newline, with one too
+/// many, and at the end.
+const LINES: &[(u8, &str)] = &[
+    (2, "raw=plain\nraw=plain\n"),
+    (2, "raw=numbered\nraw=numbered\n"),
+    (2, "raw=plain\nraw=numbered\n"),
+    (2, "raw=numbered\nraw=plain\n"),
+    (2, "raw=plain\ntrailing=plain\n"),
+    (2, "raw=numbered\ntrailing=padded\n"),
+    (2, "trailing=plain\nraw=numbered\ntrailing=plain\n"),
+    (2, "trailing=padded\nraw=numbered\nraw=numbered\n"),
+    (2, "trailing=plain\nraw=Plain\n"),
+    (2, "trailing=padded\nraw=padded\n"),
+    (2, "trailing=numbered\nraw=numbered\n"),
+    (2, "trailing=padded\n\nraw=numbered\n"),
+    (2, "trailing=padded raw=numbered\n"),
+    (2, "trailing=paddedraw=numbered\n"),
+    (0, "raw=numbered\nproducts=plain\n"),
+    (0, "raw=numbered\nproducts=divide\n"),
+    (2, "products=plain\nraw=numbered\n"),
+    (2, "raw=numbered\nbits=8\n"),
+    (2, "raw=numbered\narrays=lite\n"),
+    (2, "raw=numbered\nfield=body\nif=-\n"),
+    (2, "raw=numbered"),
+    (2, "raw=plain"),
+    (2, "\nraw=numbered\n"),
+    (2, "raw=numbered\n\n"),
+    (2, "raw=numbered\r\n"),
+    (2, "raw=num\nbered\n"),
+    (2, "raw\n=numbered\n"),
 ];
 
 /// At every other place, alone and beside the right one; and a head with nothing behind it.

@@ -382,8 +382,8 @@ fn forms() -> Vec<Vec<u8>> {
     all
 }
 
-/// Their answers: twice, beside the line `raw`, which stands behind it, beside one of a request that has not landed,
-/// without a newline, with one too many, and at the end.
+/// Their answers: twice, beside the lines `raw` and `products`, which stand behind it, without a newline, with one too many,
+/// and at the end.
 const LINES: &[(u8, &str)] = &[
     (2, "trailing=plain\ntrailing=plain\n"),
     (2, "trailing=padded\ntrailing=padded\n"),
@@ -391,12 +391,12 @@ const LINES: &[(u8, &str)] = &[
     (2, "trailing=padded\ntrailing=plain\n"),
     (0, "raw=plain\n"),
     (0, "raw=numbered\n"),
-    (2, "products=plain\n"),
-    (2, "products=divide\n"),
+    (0, "products=plain\n"),
+    (0, "products=divide\n"),
     (0, "trailing=plain\nraw=plain\n"),
     (0, "trailing=padded\nraw=numbered\n"),
     (2, "raw=plain\ntrailing=padded\n"),
-    (2, "trailing=padded\nproducts=plain\n"),
+    (0, "trailing=padded\nproducts=plain\n"),
     (2, "trailing=padded\nbits=8\n"),
     (2, "trailing=padded\narrays=lite\n"),
     (2, "trailing=padded\nfield=body\nif=-\n"),

@@ -196,14 +196,15 @@ pub const BAD_VALUES: [&str; 32] = [
     "number", "numbers", "plainnumbered", "plain numbered", "plain,numbered", "padded", "raw_value0", "full",
 ];
 
-/// Other keys, among them that of a request that has not landed, and other forms of this one, before a value.
+/// Other keys, and other forms of this one, before a value. `products` has a value in common.
 #[rustfmt::skip]
 pub const BAD_STARTS: [&str; 20] = [
     "Raw=", "RAW=", "ra=", "raws=", "raw ", "raw =", "raw==", "raw:", " raw=", "\traw=", "raw_value=", "raw0=", "rawraw=",
     "numbered=", "trailing=", "arrays=", "products=", "bits=", "=", "",
 ];
 
-/// The line becomes one that breaks the form, or stands elsewhere, or twice, or has no newline.
+/// The line becomes one that breaks the form, or stands elsewhere, or twice, or has no newline; or a line `products`
+/// stands behind it or in its place.
 pub fn break_line(lines: &mut Vec<String>, random: &mut Random) {
     let place = lines.iter().position(|line| line.starts_with("raw=")).expect("the line stands there");
     let line = lines.remove(place);

@@ -1,6 +1,6 @@
-//! The record of document 01, section 'The record', with the lines `trailing`, `raw` and `bits` of document
-//! 02 (Cards 3, 7 and 10): its parts, and the reader of its form. Whatever departs from the form is refusal
-//! 2; the size of a number is not form (refusal 6), nor whether a size is stated rightly (refusal 17).
+//! The record of document 01, section 'The record', with the lines `trailing`, `raw`, `products` and `bits` of
+//! document 02 (Cards 3, 7, 8 and 10): its parts, and the reader of its form. Whatever departs from the form is
+//! refusal 2; the size of a number is not form (refusal 6), nor whether a size is stated rightly (refusal 17).
 
 /// What of the form a record breaks, and at which key.
 pub type Flaw = String;
@@ -31,6 +31,13 @@ pub enum Raw {
     Numbered,
 }
 
+/// How an array's check asks for its elements' bytes: by their product, or by a division.
+#[derive(Clone, Copy, PartialEq, Eq)]
+pub enum Products {
+    Plain,
+    Divide,
+}
+
 pub struct Record {
     pub endian: Endian,
     pub target: String,
@@ -39,6 +46,8 @@ pub struct Record {
     pub trailing: Option<Trailing>,
     /// The line `raw`, likewise.
     pub raw: Option<Raw>,
+    /// The line `products`, likewise.
+    pub products: Option<Products>,
     pub decls: Vec<Decl>,
 }
 
@@ -193,11 +202,12 @@ impl Record {
         let arrays = lines.read("arrays", arrays)?;
         let trailing = lines.read_if_there("trailing", trailing)?;
         let raw = lines.read_if_there("raw", raw)?;
+        let products = lines.read_if_there("products", products)?;
         let mut decls = vec![read_decl(&mut lines)?];
         while !lines.at_end() {
             decls.push(read_decl(&mut lines)?);
         }
-        Ok(Record { endian, target, arrays, trailing, raw, decls })
+        Ok(Record { endian, target, arrays, trailing, raw, products, decls })
     }
 
     pub fn position(&self, name: &str) -> Option<usize> {
@@ -378,6 +388,14 @@ fn raw(value: &[u8]) -> Result<Raw, &'static str> {
     match value {
         b"plain" => Ok(Raw::Plain),
         b"numbered" => Ok(Raw::Numbered),
+        _ => Err("another word"),
+    }
+}
+
+fn products(value: &[u8]) -> Result<Products, &'static str> {
+    match value {
+        b"plain" => Ok(Products::Plain),
+        b"divide" => Ok(Products::Divide),
         _ => Err("another word"),
     }
 }

@@ -1,9 +1,9 @@
 //! Records in shorthand, for writing them by hand and by chance:
 //! `little Lamp lite; packet Lamp -: scalar amps 12, reserved 4, scalar x 8 if c 1, payload -`.
 //! First the head's three values, then the declarations; each word is the value of one key. The head may
-//! have a word more, the value of `trailing`: `little Lamp lite padded`; and behind that its line `raw`:
-//! `little Lamp lite padded raw=numbered`, `little Lamp lite raw=plain`. So may a packet or struct have the
-//! value of `bits`: `packet Lamp - 16: scalar amps 16`.
+//! have a word more, the value of `trailing`: `little Lamp lite padded`; and behind that its lines `raw` and
+//! `products`: `little Lamp lite padded raw=numbered products=divide`, `little Lamp lite raw=plain`. So may a
+//! packet or struct have the value of `bits`: `packet Lamp - 16: scalar amps 16`.
 
 #[derive(Clone)]
 pub struct Sketch {
@@ -24,12 +24,9 @@ fn head_keys(words: usize) -> &'static [&'static str] {
     }
 }
 
-/// What stands before a line `raw`, and this.
-fn split_raw(head: &str) -> (&str, Option<&str>) {
-    match head.find(" raw=") {
-        Some(at) => (&head[..at], Some(&head[at + 1..])),
-        None => (head, None),
-    }
+/// The values, and the words behind them that are lines.
+fn split_lines(head: &str) -> (Vec<&str>, Vec<&str>) {
+    words(head).into_iter().partition(|word| !word.contains('='))
 }
 
 fn decl_keys(kind: &str, words: usize) -> &'static [&'static str] {
@@ -70,10 +67,9 @@ impl Sketch {
     /// The record's lines, without newlines.
     pub fn lines(&self) -> Vec<String> {
         let mut lines = Vec::new();
-        let (head, raw) = split_raw(&self.head);
-        let values = words(head);
+        let (values, whole) = split_lines(&self.head);
         push_lines(&mut lines, head_keys(values.len()), &values);
-        lines.extend(raw.map(str::to_string));
+        lines.extend(whole.into_iter().map(str::to_string));
         for decl in &self.decls {
             let values = words(&decl.head);
             push_lines(&mut lines, decl_keys(values[0], values.len()), &values);

@@ -180,16 +180,15 @@ pub const BAD_VALUES: [&str; 30] = [
     "pad", "plainpadded", "plain padded", "plain,padded", "full",
 ];
 
-/// Other keys, among them that of a request that has not landed, and other forms of this one, before a value. `raw` has
-/// a value in common.
+/// Other keys, and other forms of this one, before a value. `raw` and `products` have a value in common.
 #[rustfmt::skip]
 pub const BAD_STARTS: [&str; 18] = [
     "Trailing=", "TRAILING=", "trailin=", "trailings=", "trailing ", "trailing =", "trailing==", "trailing:", " trailing=",
     "\ttrailing=", "trail=", "tail=", "padding=", "arrays=", "raw=", "products=", "=", "",
 ];
 
-/// The line becomes one that breaks the form, or stands elsewhere, or twice, or has no newline; or a line `raw` stands
-/// behind it or in its place.
+/// The line becomes one that breaks the form, or stands elsewhere, or twice, or has no newline; or a line `raw` or
+/// `products` stands behind it or in its place.
 pub fn break_line(lines: &mut Vec<String>, random: &mut Random) {
     let place = lines.iter().position(|line| line.starts_with("trailing=")).expect("the line stands there");
     let line = lines.remove(place);

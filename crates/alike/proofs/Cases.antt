@@ -1,4 +1,5 @@
--- Computed tests of what is left of a record: P1 of document 01 with and without its line `raw`, and lines of other keys, which stay.
+-- Computed tests of what is left of a record: P1 of document 01 with and without its lines `raw` and `products`, and lines of other keys,
+-- which stay.
 -- Assumes nothing.
 use mathlib.Core.Bool.{true}
 use mathlib.Core.List.{List, [], _∷_, _++_}
@@ -6,7 +7,7 @@ use mathlib.Core.Path.{_≡_, refl}
 use Prim.Native.String.{String}
 use Rattle.definitions.specs.Bytes.{Text, text, same, all}
 use Rattle.definitions.specs.Record.{keyOf}
-use Rattle.alike.specs.Without.{begins, sift, withoutBits, withoutRaw}
+use Rattle.alike.specs.Without.{begins, sift, withoutBits, withoutRaw, withoutProducts}
 
 -- P1 with these lines behind `arrays` and behind `parent`
 one : String → String → Text
@@ -26,6 +27,16 @@ plain =
     ∷ (text "raw=a\nraw\nid=raw=\nraw=", text "raw\nid=raw=\n")
     ∷ []
 
+-- without its line `products`
+undivided : List (Text × Text)
+undivided =
+    (one "" "", one "" "")
+    ∷ (one "products=divide\n" "", one "" "")
+    ∷ (one "products=plain\n" "", one "" "")
+    ∷ (one "trailing=padded\nraw=numbered\nproducts=divide\n" "bits=unknown\n", one "trailing=padded\nraw=numbered\n" "bits=unknown\n")
+    ∷ (text "products=a\nproducts\nid=products=\nproducts=", text "products\nid=products=\n")
+    ∷ []
+
 -- without its lines `bits`
 unstated : List (Text × Text)
 unstated =
@@ -36,6 +47,10 @@ unstated =
 plain-right : all (λ (c : Text × Text). same (withoutRaw (c .0)) (c .1)) plain ≡ true
 unfolding keyOf begins sift withoutRaw one plain
 plain-right = refl
+
+undivided-right : all (λ (c : Text × Text). same (withoutProducts (c .0)) (c .1)) undivided ≡ true
+unfolding keyOf begins sift withoutProducts one undivided
+undivided-right = refl
 
 unstated-right : all (λ (c : Text × Text). same (withoutBits (c .0)) (c .1)) unstated ≡ true
 unfolding keyOf begins sift withoutBits one unstated

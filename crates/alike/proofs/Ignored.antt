@@ -14,7 +14,8 @@ use Rattle.definitions.specs.FieldParser.{Outcome, refused}
 use Rattle.definitions.specs.Answer.{Lowered, lowerRecord, answerRead, wrongLength, answer, lowered, lower, word, bufferAfter}
 use Rattle.definitions.specs.declared.Refusal.{Refusal}
 use Rattle.alike.specs.Without.{withoutBits, Apart}
-use Rattle.alike.proofs.Reading.{reads-without, no-longer, not-empty, length-right}
+use Rattle.alike.proofs.Rests.{bits-sifted}
+use Rattle.alike.proofs.Reading.{reads-without, length-right}
 use Rattle.alike.proofs.Records.{same-record, no-bits}
 
 -- ---- a record, and what is left of it without its lines `bits`
@@ -36,7 +37,7 @@ answer-without s = by (wrongLength s) refl
     read (recordIs h ds) e w =
         let t = reads-without s h ds e in
         sum (same-record s (withoutBits s) h (t .0) ds (t .1) (t .3) (t .4) (no-bits (withoutBits s) ds (t .1) (t .5)))
-        (rw (length-right s (withoutBits s) (no-longer s) (not-empty s h ds e) w, t .2) refl)
+        (rw (length-right s (withoutBits s) h ds (bits-sifted s) t w, t .2) refl)
       where
         sum : {o p : Outcome} → (lowerRecord s h ds (newSchema s ds) ≡ refused Refusal.Misstated) ⊎ (lowerRecord s h ds (newSchema s ds) ≡ o) → o ≡ p
             → Its (lowerRecord s h ds (newSchema s ds)) ⊎ (lowerRecord s h ds (newSchema s ds) ≡ p)

@@ -339,18 +339,44 @@ differing-key s p key other d h = not-both key other (drop p s) p 0 d h
 
 -- ---- lines that are left out, and the keys of others
 
--- of no line that may be left out
+-- of no line that is left out
+abbrev pub apartFrom : LeftOut → Text → Bool
+apartFrom LeftOut.none key = true
+apartFrom LeftOut.bits key = differ key (text "bits=")
+apartFrom LeftOut.raw key = differ key (text "raw=")
+apartFrom LeftOut.products key = differ key (text "products=")
+
+-- of none that may be
 abbrev pub apart : Text → Bool
-apart key = differ key (text "bits=") && differ key (text "raw=")
+apart key = apartFrom LeftOut.bits key && (apartFrom LeftOut.raw key && apartFrom LeftOut.products key)
 
 pub both : (a b : Bool) → (a && b) ≡ true → (a ≡ true) × (b ≡ true)
 both true b e = (refl, e)
 both false b e = impossible (cc)
 
+apart-each : (out : LeftOut) (key : Text) → apart key ≡ true → apartFrom out key ≡ true
+apart-each out key d = by out
+  where
+    later : (apartFrom LeftOut.bits key ≡ true) × ((apartFrom LeftOut.raw key && apartFrom LeftOut.products key) ≡ true)
+    later = both (apartFrom LeftOut.bits key) (apartFrom LeftOut.raw key && apartFrom LeftOut.products key) d
+
+    last : (apartFrom LeftOut.raw key ≡ true) × (apartFrom LeftOut.products key ≡ true)
+    last = both (apartFrom LeftOut.raw key) (apartFrom LeftOut.products key) (later .1)
+
+    by : (o : LeftOut) → apartFrom o key ≡ true
+    by LeftOut.none = refl
+    by LeftOut.bits = later .0
+    by LeftOut.raw = last .0
+    by LeftOut.products = last .1
+
+pub key-apart : (out : LeftOut) (s : Text) (p : ℕ) (key : Text) → apartFrom out key ≡ true → isOut out (drop p s) ≡ true → keyAt s p key ≡ Found.Nothing
+key-apart LeftOut.none s p key d h = impossible (cc)
+key-apart LeftOut.bits s p key d h = differing-key s p key (text "bits=") d h
+key-apart LeftOut.raw s p key d h = differing-key s p key (text "raw=") d h
+key-apart LeftOut.products s p key d h = differing-key s p key (text "products=") d h
+
 pub other-key : (out : LeftOut) (s : Text) (p : ℕ) (key : Text) → apart key ≡ true → isOut out (drop p s) ≡ true → keyAt s p key ≡ Found.Nothing
-other-key LeftOut.none s p key d h = impossible (cc)
-other-key LeftOut.bits s p key d h = differing-key s p key (text "bits=") (both (differ key (text "bits=")) (differ key (text "raw=")) d .0) h
-other-key LeftOut.raw s p key d h = differing-key s p key (text "raw=") (both (differ key (text "bits=")) (differ key (text "raw=")) d .1) h
+other-key out s p key d h = key-apart out s p key (apart-each out key d) h
 
 -- where another key is there, none is left out
 pub not-out : (out : LeftOut) (s : Text) (p : ℕ) (key : Text) → apart key ≡ true → isFound (keyAt s p key) ≡ true → isOut out (drop p s) ≡ false
@@ -372,6 +398,7 @@ unfolding begins
 out-same LeftOut.none u v r = refl
 out-same LeftOut.bits u v r = key-same LeftOut.bits u v 0 0 (text "bits=") refl r
 out-same LeftOut.raw u v r = key-same LeftOut.raw u v 0 0 (text "raw=") refl r
+out-same LeftOut.products u v r = key-same LeftOut.products u v 0 0 (text "products=") refl r
 
 abbrev Clean : LeftOut → Place → Text → Type 0
 Clean out inside v = Unit {0}

@@ -4,7 +4,6 @@ use mathlib.Core.Bool.{Bool, true, false, _&&_}
 use mathlib.Core.Logic.{_⊎_, inl, inr}
 use mathlib.Core.Path.{_≡_, refl, sym, ap, subst}
 use Prim.Native.Nat.{ℕ, _≤_}
-use native.Mathlib.Omega.{arith}
 use lib.ListN.{length, drop}
 use Rattle.definitions.specs.Bytes.{Text, text, pick}
 use Rattle.definitions.specs.Record.{keyAt, numberAt, nameAt, onFound, onNumber, onName, onBit, onModifier, onMaybeNumber, onMaybeSize, onMaybePart, numberLine, nameLine, bitLine, maybeNumberLine, maybeNameLine, modifierLine, statedAt, bitsLine}
@@ -26,7 +25,7 @@ use Rattle.lengths.proofs.Booleans.{impossible}
 use Rattle.alike.specs.Without.{begins}
 use Rattle.alike.proofs.Same.{SamePart, SameMaybe}
 use Rattle.alike.proofs.Rests.{LeftOut, isOut, start, inside, away, Rests, same, cut}
-use Rattle.alike.proofs.Leaves.{fits, FoundAs, NumberAs, NameAs, To, key-there, line-first, number-there, name-there, key-begins, differing-key, apart, both, other-key, cleaned, FoundOn, NumberOn, From, key-left, number-left}
+use Rattle.alike.proofs.Leaves.{fits, FoundAs, NumberAs, NameAs, To, key-there, line-first, number-there, name-there, key-begins, apartFrom, apart, both, key-apart, other-key, cleaned, FoundOn, NumberOn, From, key-left, number-left}
 
 -- a key of no newline, of no line that may be left out
 abbrev pub plain : Text → Bool
@@ -60,17 +59,20 @@ abbrev pub keeps : LeftOut → Bool
 keeps LeftOut.none = true
 keeps LeftOut.bits = false
 keeps LeftOut.raw = true
+keeps LeftOut.products = true
 
 -- what it states: the same as the first, or nothing
 kept-here : (out : LeftOut) (u : Text) → begins (text "bits=") u ≡ true → isOut out u ≡ false → (m : MaybeSize) → m ≡ pick (keeps out) m MaybeSize.None
 kept-here LeftOut.none u e f m = refl
 kept-here LeftOut.bits u e f m = impossible (cc)
 kept-here LeftOut.raw u e f m = refl
+kept-here LeftOut.products u e f m = refl
 
 pub in-none : (out : LeftOut) → MaybeSize.None ≡ pick (keeps out) MaybeSize.None MaybeSize.None
 in-none LeftOut.none = refl
 in-none LeftOut.bits = refl
 in-none LeftOut.raw = refl
+in-none LeftOut.products = refl
 
 module _ (out : LeftOut) (s t : Text) (n : ℕ) where
   -- places at the beginning of a line
@@ -183,25 +185,6 @@ module _ (out : LeftOut) (s t : Text) (n : ℕ) where
   then-line Q p q r l line c bad bad₂ w f g h =
       on-found Q Beyond bad bad₂ w (keyAt s p line) (keyAt t q line) f g (line-first out s t n line p q c r l) h
 
-  -- an optional line of two words, absent as if it had the first; `read` is the answer, of a word and the place behind. Both texts read it, or neither
-  module _ {A W : Type 0} (read : W → ℕ → A) (word : A → W) (next : A → ℕ) (law : (w : W) (i : ℕ) → (word (read w i) ≡ w) × (next (read w i) ≡ i))
-      (first second : W) (a b : Text) (c : fits true a ≡ true) (d : fits true b ≡ true) where
-    abbrev oneOf : Text → ℕ → A
-    oneOf u p = onFound (keyAt u p a) (onFound (keyAt u p b) (read first p) (read second)) (read first)
-
-    abbrev Agree : A → A → Type 0
-    Agree x y = (word x ≡ word y) × Beyond (next x) (next y)
-
-    agree : (w : W) (i j : ℕ) → Beyond i j → Agree (read w i) (read w j)
-    agree w i j u = rw (law w i .0, law w j .0, law w i .1, law w j .1) (refl, u)
-
-    pub then-optional : (p q : ℕ) → Rests out inside (drop p s) (drop q t) → Beyond p q → Agree (oneOf s p) (oneOf t q)
-    then-optional p q r k =
-        let l : length (drop q t) ≤ n = omega (arith, k .less) in
-        then-line Agree p q r l a c _ _
-        (then-line Agree p q r l b d (read first p) (read first q) (agree first p q k) (read second) (read second) (agree second)) (read first) (read first)
-        (agree first)
-
   -- ---- a line, and what follows it
 
   module _ {A : Type 0} (Q : A → A → Type 0) (bad : A) (w : (x : A) → Q bad x) (p q : ℕ) (k : Beyond p q) where
@@ -309,7 +292,7 @@ module _ (s t : Text) (n p q : ℕ) (k : Beyond LeftOut.bits s t n p q) where
   first-only Found.Nothing f e u b g = impossible (cc (key-begins s p (text "bits=")))
   first-only (Found.At i) f e u (Found.At j) g = impossible (cc (key-begins t q (text "bits="), cleaned (k .rests)))
 
--- or a line `raw` stands in its place, and the second text leaves that out
+-- or a line of another key stands in its place, and the second text leaves that out
 abbrev Instead : LeftOut → Text → ℕ → Type 0
 Instead out s p = (isOut out (drop p s) ≡ true) × (bitsLine s p ≡ MaybeSizeRead.Is MaybeSize.None p)
 
@@ -317,14 +300,18 @@ bits-line : (out : LeftOut) (s t : Text) (n p q : ℕ) → Beyond out s t n p q 
 unfolding bitsLine
 bits-line out s t n p q k = by (k .rests)
   where
+    instead : (o : LeftOut) → apartFrom o (text "bits=") ≡ true → isOut o (drop p s) ≡ true → Instead o s p
+    instead o d e =
+        (e, ap (λ (a : Found). onFound a (MaybeSizeRead.Is MaybeSize.None p) λ i. statedAt s i) (key-apart o s p (text "bits=") d e))
+
     gone : (o : LeftOut) → Beyond o s t n p q → isOut o (drop p s) ≡ true → Rests o away (drop p s) (drop q t)
         → Instead o s p ⊎ MaybeSizeAs o s t n (bitsLine s p) (bitsLine t q)
     gone LeftOut.none h e r = impossible (cc)
     gone LeftOut.bits h e r =
         inr (first-only s t n p q h (keyAt s p (text "bits=")) refl e (key-left LeftOut.bits s (drop q t) false (text "bits=") p refl r)
         (keyAt t q (text "bits=")) refl)
-    gone LeftOut.raw h e r =
-        inl (e, ap (λ (a : Found). onFound a (MaybeSizeRead.Is MaybeSize.None p) λ i. statedAt s i) (differing-key s p (text "bits=") (text "raw=") refl e))
+    gone LeftOut.raw h e r = inl (instead LeftOut.raw refl e)
+    gone LeftOut.products h e r = inl (instead LeftOut.products refl e)
 
     by : Rests out start (drop p s) (drop q t) → Instead out s p ⊎ MaybeSizeAs out s t n (bitsLine s p) (bitsLine t q)
     by (same e r) =

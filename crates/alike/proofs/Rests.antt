@@ -1,4 +1,5 @@
--- Rests of two texts of which the second leaves out lines: byte by byte the same, but for lines that begin with `bits=`, or for those that begin with `raw=`.
+-- Rests of two texts of which the second leaves out lines: byte by byte the same, but for lines that begin with `bits=`, or for those that begin with `raw=`,
+-- or with `products=`.
 -- Assumes nothing.
 use mathlib.Core.Bool.{Bool, true, false}
 use mathlib.Core.List.{[], _∷_}
@@ -10,19 +11,28 @@ use lib.ListN.{length}
 use Rattle.definitions.specs.Bytes.{Text, text, pick}
 use Rattle.definitions.specs.Record.{keyOf}
 use Rattle.lengths.proofs.Booleans.{impossible}
-use Rattle.alike.specs.Without.{begins, sift, without, withoutBits, withoutRaw}
+use Rattle.alike.specs.Without.{begins, sift, without, withoutBits, withoutRaw, withoutProducts}
 
 -- the lines that the second text leaves out
 pub data LeftOut : Type 0 where
   none : LeftOut
   bits : LeftOut
   raw : LeftOut
+  products : LeftOut
+
+-- what they begin with, where there are such
+abbrev pub outKey : LeftOut → Text
+outKey LeftOut.none = []
+outKey LeftOut.bits = text "bits="
+outKey LeftOut.raw = text "raw="
+outKey LeftOut.products = text "products="
 
 -- one of them begins here
 abbrev pub isOut : LeftOut → Text → Bool
 isOut LeftOut.none u = false
 isOut LeftOut.bits u = begins (text "bits=") u
 isOut LeftOut.raw u = begins (text "raw=") u
+isOut LeftOut.products u = begins (text "products=") u
 
 -- at the beginning of a line, inside of one, or inside of one that is left out
 pub data Place : Type 0 where
@@ -77,6 +87,10 @@ pub raw-sifted : (s : Text) → Rests LeftOut.raw start s (withoutRaw s)
 unfolding withoutRaw
 raw-sifted s = left LeftOut.raw (text "raw=") (λ u. refl) s
 
+pub products-sifted : (s : Text) → Rests LeftOut.products start s (withoutProducts s)
+unfolding withoutProducts
+products-sifted s = left LeftOut.products (text "products=") (λ u. refl) s
+
 -- ---- a text and itself
 
 pub itself : (u : Text) → Rests LeftOut.none inside u u
@@ -101,6 +115,7 @@ unfolding begins keyOf
 nothing-out LeftOut.none = refl
 nothing-out LeftOut.bits = refl
 nothing-out LeftOut.raw = refl
+nothing-out LeftOut.products = refl
 
 -- ---- how much is left
 

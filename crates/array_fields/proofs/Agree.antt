@@ -34,7 +34,7 @@ module _ (c : Setting) (word : Text) (id : Part) (width : MaybeNumber) (modifier
 
   abbrev block : MaybeNumber → MaybePart → Block
   block padding type =
-      blockOf (c .source) word (c .options .endianness) (c .options .arrays) (λ id. sizeBacking (c .source) id (c .fields))
+      blockOf (c .source) word (c .options) (λ id. sizeBacking (c .source) id (c .fields))
       (arrayAt (c .source) (c .scope) (c .fields) padding (field type))
 
   pub arrays-agree : (padding : MaybeNumber) (type : MaybePart) → appends (block padding type) ≡ parseArrayField c padding id width type modifier size

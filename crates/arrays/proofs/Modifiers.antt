@@ -8,6 +8,8 @@ use Rattle.definitions.specs.Bytes.{Text, text, decimal}
 use Rattle.definitions.specs.Lines.{Stmt, Line, render}
 use Rattle.definitions.specs.Blocks.{named, Elem, modifierLines, parseArrayFieldLite, parseArrayFieldFull}
 use Rattle.definitions.specs.declared.Arrays.{Arrays}
+use Rattle.definitions.specs.declared.Options.{Options}
+use Rattle.definitions.specs.declared.Products.{Products}
 use Rattle.definitions.specs.declared.Modifier.{Modifier}
 use Rattle.definitions.specs.declared.ElementSize.{ElementSize}
 use Rattle.definitions.specs.declared.ArraySize.{ArraySize}
@@ -49,36 +51,38 @@ modifier-then (Modifier.Plus n) x xs = sym (line-leads 0 (Line.minus 64 x n) .sp
 modifier-then (Modifier.Minus n) x xs = sym (line-leads 0 (Line.plus 64 x n) .split [] (render xs))
 
 -- lite reads no element
-lite-any : (id type : Text) (d : Elem) (e : ElementSize) (n : ArraySize)
-    → parseArrayFieldLite id type (Elem.parsed type) [] e n ≡ parseArrayFieldLite id type d [] e n
-lite-any id type d (ElementSize.Static es) (ArraySize.StaticCount n) = refl
-lite-any id type d (ElementSize.Static es) ArraySize.DynamicCount = refl
-lite-any id type d (ElementSize.Static es) ArraySize.DynamicSize = refl
-lite-any id type d (ElementSize.Static es) ArraySize.Unknown = refl
-lite-any id type d ElementSize.Dynamic (ArraySize.StaticCount n) = refl
-lite-any id type d ElementSize.Dynamic ArraySize.DynamicCount = refl
-lite-any id type d ElementSize.Dynamic ArraySize.DynamicSize = refl
-lite-any id type d ElementSize.Dynamic ArraySize.Unknown = refl
-lite-any id type d ElementSize.Unknown (ArraySize.StaticCount n) = refl
-lite-any id type d ElementSize.Unknown ArraySize.DynamicCount = refl
-lite-any id type d ElementSize.Unknown ArraySize.DynamicSize = refl
-lite-any id type d ElementSize.Unknown ArraySize.Unknown = refl
+lite-any : (o : Products) (id type : Text) (d : Elem) (e : ElementSize) (n : ArraySize)
+    → parseArrayFieldLite o id type (Elem.parsed type) [] e n ≡ parseArrayFieldLite o id type d [] e n
+lite-any o id type d (ElementSize.Static es) (ArraySize.StaticCount n) = refl
+lite-any o id type d (ElementSize.Static es) ArraySize.DynamicCount = refl
+lite-any o id type d (ElementSize.Static es) ArraySize.DynamicSize = refl
+lite-any o id type d (ElementSize.Static es) ArraySize.Unknown = refl
+lite-any o id type d ElementSize.Dynamic (ArraySize.StaticCount n) = refl
+lite-any o id type d ElementSize.Dynamic ArraySize.DynamicCount = refl
+lite-any o id type d ElementSize.Dynamic ArraySize.DynamicSize = refl
+lite-any o id type d ElementSize.Dynamic ArraySize.Unknown = refl
+lite-any o id type d ElementSize.Unknown (ArraySize.StaticCount n) = refl
+lite-any o id type d ElementSize.Unknown ArraySize.DynamicCount = refl
+lite-any o id type d ElementSize.Unknown ArraySize.DynamicSize = refl
+lite-any o id type d ElementSize.Unknown ArraySize.Unknown = refl
 
-module _ (m : Arrays) (id type : Text) (element : Element) (k : Modifier) (e : ElementSize) (n : ArraySize) {l l₁ l₂ : Text} {i r q : ℕ} where
-  pub array-lite : m ≡ Arrays.Lite → Put l i (modifierText m id k) r l₁ → Put l₁ r (liteText id type e n) q l₂
-      → Put l i (arrayText m id type element k e n) q l₂
+module _ (o : Options) (id type : Text) (element : Element) (k : Modifier) (e : ElementSize) (n : ArraySize) {l l₁ l₂ : Text} {i r q : ℕ} where
+  pub array-lite : o .arrays ≡ Arrays.Lite → Put l i (modifierText (o .arrays) id k) r l₁ → Put l₁ r (liteText (o .products) id type e n) q l₂
+      → Put l i (arrayText o id type element k e n) q l₂
   unfolding modifierText liteText arrayText stmtsBytes
   array-lite h p t =
       rw h
       (like
-      (modifier-then k (named Arrays.Lite id (text "_size_")) (parseArrayFieldLite id type (Elem.parsed type) [] e n)
-      ∙ ap (λ (xs : List Stmt). render (modifierLines k 64 (named Arrays.Lite id (text "_size_")) xs)) (lite-any id type (elementOf type element) e n))
+      (modifier-then k (named Arrays.Lite id (text "_size_")) (parseArrayFieldLite (o .products) id type (Elem.parsed type) [] e n)
+      ∙ ap (λ (xs : List Stmt). render (modifierLines k 64 (named Arrays.Lite id (text "_size_")) xs))
+      (lite-any (o .products) id type (elementOf type element) e n))
       (chain (rw h at p) t))
 
-  pub array-full : m ≡ Arrays.Full → Put l i (modifierText m id k) r l₁ → Put l₁ r (fullText id type element e n) q l₂
-      → Put l i (arrayText m id type element k e n) q l₂
+  pub array-full : o .arrays ≡ Arrays.Full → Put l i (modifierText (o .arrays) id k) r l₁
+      → Put l₁ r (fullText (o .products) id type element e n) q l₂
+      → Put l i (arrayText o id type element k e n) q l₂
   unfolding modifierText fullText arrayText stmtsBytes
   array-full h p t =
       rw h
-      (like (modifier-then k (named Arrays.Full id (text "_size_")) (parseArrayFieldFull id type (elementOf type element) [] e n))
+      (like (modifier-then k (named Arrays.Full id (text "_size_")) (parseArrayFieldFull (o .products) id type (elementOf type element) [] e n))
       (chain (rw h at p) t))

@@ -6,6 +6,7 @@ use Rattle.definitions.specs.Bytes.{Text, text, decimal}
 use Rattle.definitions.specs.Lines.{render}
 use Rattle.definitions.specs.Blocks.{named, Array, modifierLines, fieldLines}
 use Rattle.definitions.specs.declared.Arrays.{Arrays}
+use Rattle.definitions.specs.declared.Options.{Options}
 use Rattle.definitions.specs.declared.Modifier.{Modifier}
 use Rattle.definitions.specs.declared.ElementSize.{ElementSize}
 use Rattle.definitions.specs.declared.ArraySize.{ArraySize}
@@ -21,10 +22,10 @@ modifiedText x sign n = x ++ (text " = " ++ (x ++ (sign ++ (decimal n ++ text ";
 unfoldable pub modifierText : Arrays → Text → Modifier → Text
 modifierText m id modifier = render (modifierLines modifier 64 (named m id (text "_size_")) [])
 
-abbrev pub arrayOf : Arrays → Text → Text → Element → ElementSize → ArraySize → Array
-arrayOf m id type element e n =
-    record { mode = m; id = id; type = type; elementSize = e; arraySize = n; elem = elementOf type element }
+abbrev pub arrayOf : Options → Text → Text → Element → ElementSize → ArraySize → Array
+arrayOf o id type element e n =
+    record { mode = o .arrays; products = o .products; id = id; type = type; elementSize = e; arraySize = n; elem = elementOf type element }
 
 -- an array's lines with its modifier
-unfoldable pub arrayText : Arrays → Text → Text → Element → Modifier → ElementSize → ArraySize → Text
-arrayText m id type element modifier e n = render (fieldLines modifier 64 (arrayOf m id type element e n) [])
+unfoldable pub arrayText : Options → Text → Text → Element → Modifier → ElementSize → ArraySize → Text
+arrayText o id type element modifier e n = render (fieldLines modifier 64 (arrayOf o id type element e n) [])

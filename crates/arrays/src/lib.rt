@@ -3,6 +3,7 @@ use definitions::ArraySize;
 use definitions::Arrays;
 use definitions::ElementSize;
 use definitions::Modifier;
+use definitions::Options;
 use elements::Element;
 ghost use Rattle.definitions.specs.Bytes.{text as bytes};
 ghost use Rattle.definitions.specs.Blocks.{named};
@@ -40,16 +41,18 @@ pub struct ArrayShape {
 pub fn put_array(
     out: &mut [u8],
     at: usize,
-    arrays: Arrays,
+    options: Options,
     id: &[u8],
     type_id: &[u8],
     shape: ArrayShape,
 ) -> usize
     requires { ⌜ ProductFits (shape .«element_size») (shape .«array_size») ⌝ }
     ensures { λ r. ⌜ Put (now (out .entry)) at
-        (arrayText arrays (now (id .entry)) (now («type_id» .entry)) (shape .element) (shape .modifier) (shape .«element_size») (shape .«array_size»))
+        (arrayText options (now (id .entry)) (now («type_id» .entry)) (shape .element) (shape .modifier) (shape .«element_size») (shape .«array_size»))
         r (now (out .exit)) ⌝ }
 {
+    let arrays = options.arrays;
+    let products = options.products;
     let element = shape.element;
     let element_size = shape.element_size;
     let array_size = shape.array_size;
@@ -59,6 +62,7 @@ pub fn put_array(
         Arrays::Lite => lite_arrays::parse_array_field_lite(
             out,
             p,
+            products,
             id,
             type_id,
             element_size,
@@ -67,6 +71,7 @@ pub fn put_array(
         Arrays::Full => full_arrays::parse_array_field_full(
             out,
             p,
+            products,
             id,
             type_id,
             element,

@@ -384,7 +384,7 @@ single =
     ++ (text "decl=custom\nname=C\nwidth=-\n"
     ++ (packet "Lamp" ++ (plain "typedef\nid=c\ntype=C" ++ (payload ++ (array "-" "S" "65535" ++ (array "8" "-" "-" ++ padding "65535"))))))))))
     (text "if (!C::Parse(span, &c_)) return false;\n" ++ upTo "268496895")
-    -- 2: another word, another place, twice, and a line of another request
+    -- 2: another word, another place, twice
     ∷ refuses (trailing "trailing=Padded\n" []) 2
     ∷ refuses (trailing "trailing=-\n" []) 2
     ∷ refuses (trailing "trailing=\n" []) 2
@@ -392,7 +392,6 @@ single =
     ∷ refuses (lamp (text "trailing=padded\n")) 2
     ∷ refuses (trailing "trailing=padded\ntrailing=padded\n" []) 2
     ∷ refuses (trailing "trailing=plain\ntrailing=padded\n" []) 2
-    ∷ refuses (trailing "products=plain\n" []) 2
     ∷ []
 
 trails-right : all (all begins) (single ∷ trails) ≡ true
@@ -507,6 +506,108 @@ inArrays =
 numbers-right : all (all begins) (inArrays ∷ numbers) ≡ true
 unfolding everything lite full packet struct lamp plain scalar refuses agrees enum array begins starts raws typed tested room lines nibble numbers inArrays
 numbers-right = refl
+
+-- ---- the head's line `products` (document 02, Card 8)
+
+-- this head, these lines of it, a struct S that may vary, one T of 24 bits, and Lamp with these fields
+factors : Text → String → Text → Text
+factors head lines fields =
+    head ++ (text lines ++ (struct "S" ++ (payload ++ (struct "T" ++ (scalar "t" "24" ++ (packet "Lamp" ++ fields))))))
+
+-- a field of 32 bits that gives the array's count, size or element size
+given : String → Text
+given key = text "field=" ++ (text key ++ text "\nof=v\nwidth=32\nif=-\n")
+
+-- what stands between `if (` and `) {` of an array's check
+asks : String → Text
+asks test = text "if (" ++ (text test ++ text ") {\n    return false;\n}\n")
+
+-- these fields, whose lines begin so up to the array's check: with the line absent and plain, and with divide; behind the check they go on alike
+divides : Text → Text → Text → String → String → Text → List Case
+divides head fields ahead plainly divided behind =
+    starts (factors head "" fields) (ahead ++ (asks plainly ++ behind))
+    ∷ starts (factors head "products=plain\n" fields) (ahead ++ (asks plainly ++ behind))
+    ∷ starts (factors head "trailing=padded\nraw=numbered\nproducts=plain\n" fields) (ahead ++ (asks plainly ++ behind))
+    ∷ starts (factors head "products=divide\n" fields) (ahead ++ (asks divided ++ behind))
+    ∷ starts (factors head "trailing=plain\nproducts=divide\n" fields) (ahead ++ (asks divided ++ behind))
+    ∷ starts (factors head "raw=numbered\nproducts=divide\n" fields) (ahead ++ (asks divided ++ behind))
+    ∷ []
+
+-- the same lines under both words
+keeps : Text → Text → Text → List Case
+keeps head fields ls = starts (factors head "" fields) ls ∷ starts (factors head "products=divide\n" fields) ls ∷ []
+
+-- a count, an element size, or both, before the array
+read32 : String → Text
+read32 x = text x ++ text " = span.read_le<uint32_t, 4>();\n"
+
+products : List (List Case)
+products =
+    -- lite: Static elements and a count field; of 2 bytes, 1 byte, and a struct of 3
+    divides lite (given "count" ++ array "16" "-" "-") (room "4" ++ read32 "v_count_") "span.size() < 2 * v_count_"
+    "2 != 0 && span.size() / 2 < v_count_" (text "v_ = span.subrange(0, 2 * v_count_);\nspan.skip(2 * v_count_);\n")
+    ∷ divides lite (given "count" ++ array "8" "-" "-") (room "4" ++ read32 "v_count_") "span.size() < 1 * v_count_"
+    "1 != 0 && span.size() / 1 < v_count_" (text "v_ = span.subrange(0, 1 * v_count_);\nspan.skip(1 * v_count_);\n")
+    ∷ divides lite (given "count" ++ array "-" "T" "-") (room "4" ++ read32 "v_count_") "span.size() < 3 * v_count_"
+    "3 != 0 && span.size() / 3 < v_count_" (text "v_ = span.subrange(0, 3 * v_count_);\nspan.skip(3 * v_count_);\n")
+    -- lite: Dynamic elements; the test for 0 in front stays
+    ∷ divides lite (given "elemsize" ++ array "-" "S" "3") (room "4" ++ (read32 "v_element_size_" ++ asks "v_element_size_ == 0"))
+    "span.size() < v_element_size_ * 3" "v_element_size_ != 0 && span.size() / v_element_size_ < 3"
+    (text "v_ = span.subrange(0, v_element_size_ * 3);\nspan.skip(v_element_size_ * 3);\n")
+    ∷ divides lite (given "elemsize" ++ (given "count" ++ array "-" "S" "-"))
+    (room "8" ++ (read32 "v_element_size_" ++ (read32 "v_count_" ++ asks "v_element_size_ == 0")))
+    "span.size() < v_element_size_ * v_count_" "v_element_size_ != 0 && span.size() / v_element_size_ < v_count_"
+    (text "v_ = span.subrange(0, v_element_size_ * v_count_);\nspan.skip(v_element_size_ * v_count_);\n")
+    -- full: the loop's own product and the skip behind it stay
+    ∷ divides full (given "count" ++ array "16" "-" "-") (room "4" ++ read32 "output->v_count_") "span.size() < 2 * output->v_count_"
+    "2 != 0 && span.size() / 2 < output->v_count_"
+    (text "for (size_t n = 0; n < output->v_count_; n++) {\n    output->v_.push_back(span.read_le<uint16_t, 2>());\n}\n")
+    ∷ divides full (given "elemsize" ++ array "-" "S" "3") (room "4" ++ read32 "output->v_element_size_")
+    "span.size() < output->v_element_size_ * 3" "output->v_element_size_ != 0 && span.size() / output->v_element_size_ < 3"
+    (text "for (size_t n = 0; n < 3; n++) {\n    auto element_span = span.subrange(n * output->v_element_size_, output->v_element_size_);\n"
+    ++ (text "    S out;\n    if (!S::Parse(element_span, &out)) {\n        return false;\n    }\n    output->v_[n] = out;\n}\n"
+    ++ text "span.skip(output->v_element_size_ * 3);\n"))
+    ∷ divides full (given "elemsize" ++ (given "count" ++ array "-" "S" "-"))
+    (room "8" ++ (read32 "output->v_element_size_" ++ read32 "output->v_count_"))
+    "span.size() < output->v_element_size_ * output->v_count_"
+    "output->v_element_size_ != 0 && span.size() / output->v_element_size_ < output->v_count_"
+    (text "for (size_t n = 0; n < output->v_count_; n++) {\n")
+    -- one number, a byte size, the rest, Unknown elements: as they were
+    ∷ keeps lite (array "16" "-" "3") (asks "span.size() < 6" ++ text "v_ = span.subrange(0, 6);\n")
+    ∷ keeps full (array "16" "-" "3") (asks "span.size() < 6" ++ text "for (size_t n = 0; n < 3; n++) {\n")
+    ∷ keeps lite (given "size" ++ array "16" "-" "-")
+    (room "4" ++ (read32 "v_size_" ++ (asks "span.size() < v_size_" ++ (asks "(v_size_ % 2) != 0" ++ text "v_ = span.subrange(0, v_size_);\n"))))
+    ∷ keeps full (given "elemsize" ++ (given "size" ++ array "-" "S" "-"))
+    (room "8"
+    ++ (read32 "output->v_element_size_"
+    ++ (read32 "output->v_size_"
+    ++ (asks "span.size() < output->v_size_"
+    ++ (asks "output->v_element_size_ == 0 || (output->v_size_ % output->v_element_size_) != 0"
+    ++ text "auto v_count_ = output->v_size_ / output->v_element_size_;\n")))))
+    ∷ keeps lite (array "16" "-" "-") (asks "(span.size() % 2) != 0" ++ text "v_ = span;\nspan.clear();\n")
+    ∷ keeps lite (given "count" ++ array "-" "S" "-")
+    (room "4" ++ (read32 "v_count_" ++ text "v_ = span;\nfor (size_t n = 0; n < v_count_; n++) {\n    S out;\n"))
+    ∷ []
+
+-- 2: another word, another place, twice, before `raw` or `trailing`
+wrongly : List Case
+wrongly =
+    refuses (factors lite "products=Divide\n" []) 2
+    ∷ refuses (factors lite "products=-\n" []) 2
+    ∷ refuses (factors lite "products=\n" []) 2
+    ∷ refuses (factors lite "products=divide" []) 2
+    ∷ refuses (factors lite "products=divide\nraw=plain\n" []) 2
+    ∷ refuses (factors lite "products=divide\ntrailing=plain\n" []) 2
+    ∷ refuses (factors lite "products=plain\nproducts=divide\n" []) 2
+    ∷ refuses (factors lite "products=divide\nproducts=divide\n" []) 2
+    ∷ refuses (text "endian=little\ntarget=Lamp\nproducts=divide\narrays=lite\n" ++ packet "Lamp") 2
+    ∷ refuses (text "products=divide\n" ++ (lite ++ packet "Lamp")) 2
+    ∷ refuses (lamp (text "products=divide\n")) 2
+    ∷ []
+
+products-right : all (all begins) (wrongly ∷ products) ≡ true
+unfolding everything lite full packet struct lamp plain scalar payload refuses agrees array begins starts room factors given asks divides keeps read32 products wrongly
+products-right = refl
 
 -- ---- 15, the word and the buffer: P3 has 81 bytes
 

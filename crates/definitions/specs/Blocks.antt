@@ -10,6 +10,7 @@ use Rattle.definitions.specs.Lines.{Expr, Src, Test, Before, Dest, Out, 
 use Rattle.definitions.specs.declared.EndiannessValue.{EndiannessValue}
 use Rattle.definitions.specs.declared.Arrays.{Arrays}
 use Rattle.definitions.specs.declared.Raw.{Raw}
+use Rattle.definitions.specs.declared.Products.{Products}
 use Rattle.definitions.specs.declared.Options.{Options}
 use Rattle.definitions.specs.declared.Modifier.{Modifier}
 use Rattle.definitions.specs.declared.ElementSize.{ElementSize}
@@ -32,6 +33,11 @@ body (x ∷ xs) l = Stmt.one x ∷ body xs l
 -- `check_size`
 abbrev pub checkSize : Expr → Line
 checkSize e = Line.check 4 (Test.less (Expr.size span) e)
+
+-- the same of A * B bytes, by their product or by a division (document 02, Card 8)
+abbrev pub checkProduct : Products → Expr → Expr → Line
+checkProduct Products.Plain a b = checkSize (Expr.mul a b)
+checkProduct Products.Divide a b = Line.check 4 (Test.divided (Expr.size span) a b)
 
 -- `if (span.size() < e) return false;`
 abbrev pub roomFor : Expr → Line
@@ -163,6 +169,7 @@ pub data Elem : Type 0 where
 
 pub record Array : Type 0 where
   pub mode : Arrays
+  pub products : Products
   pub id : Text
   -- empty where the elements have a width
   pub type : Text
@@ -196,7 +203,7 @@ parseArrayElement s (Elem.closedEnum type order w) d o =
 parseArrayElement s (Elem.parsed type) d o =
     Line.declare type ∷ Line.check 4 (Test.notParsed type s (text "out")) ∷ Line.place d o ∷ []
 
-module _ (id type : Text) (elem : Elem) (l : List Stmt) where
+module _ (o : Products) (id type : Text) (elem : Elem) (l : List Stmt) where
   abbrev sizeVar : Arrays → Expr
   sizeVar m = Expr.var (named m id (text "_size_"))
 
@@ -211,6 +218,9 @@ module _ (id type : Text) (elem : Elem) (l : List Stmt) where
 
   abbrev room : Expr → Stmt
   room e = Stmt.one (checkSize e)
+
+  abbrev roomOf : Expr → Expr → Stmt
+  roomOf a b = Stmt.one (checkProduct o a b)
 
   -- `if (t) {`, `    return false;`, `}`
   abbrev fails : Test → Stmt
@@ -236,17 +246,17 @@ module _ (id type : Text) (elem : Elem) (l : List Stmt) where
   abbrev pub parseArrayFieldLite : ElementSize → ArraySize → List Stmt
   parseArrayFieldLite (ElementSize.Static es) (ArraySize.StaticCount n) = room (Expr.lit (es * n)) ∷ cut (Expr.lit (es * n))
   parseArrayFieldLite (ElementSize.Static es) ArraySize.DynamicCount =
-      room (Expr.mul (Expr.lit es) (countVar Arrays.Lite)) ∷ cut (Expr.mul (Expr.lit es) (countVar Arrays.Lite))
+      roomOf (Expr.lit es) (countVar Arrays.Lite) ∷ cut (Expr.mul (Expr.lit es) (countVar Arrays.Lite))
   parseArrayFieldLite (ElementSize.Static es) ArraySize.DynamicSize =
       room (sizeVar Arrays.Lite) ∷ fails (Test.ragged (sizeVar Arrays.Lite) (Expr.lit es)) ∷ cut (sizeVar Arrays.Lite)
   parseArrayFieldLite (ElementSize.Static es) ArraySize.Unknown = fails (Test.ragged rest (Expr.lit es)) ∷ whole
   parseArrayFieldLite ElementSize.Dynamic (ArraySize.StaticCount n) =
       fails (Test.equal (elementVar Arrays.Lite) (Expr.lit 0))
-      ∷ room (Expr.mul (elementVar Arrays.Lite) (Expr.lit n))
+      ∷ roomOf (elementVar Arrays.Lite) (Expr.lit n)
       ∷ cut (Expr.mul (elementVar Arrays.Lite) (Expr.lit n))
   parseArrayFieldLite ElementSize.Dynamic ArraySize.DynamicCount =
       fails (Test.equal (elementVar Arrays.Lite) (Expr.lit 0))
-      ∷ room (Expr.mul (elementVar Arrays.Lite) (countVar Arrays.Lite))
+      ∷ roomOf (elementVar Arrays.Lite) (countVar Arrays.Lite)
       ∷ cut (Expr.mul (elementVar Arrays.Lite) (countVar Arrays.Lite))
   parseArrayFieldLite ElementSize.Dynamic ArraySize.DynamicSize =
       room (sizeVar Arrays.Lite) ∷ fails (Test.raggedOrZero (sizeVar Arrays.Lite) (elementVar Arrays.Lite)) ∷ cut (sizeVar Arrays.Lite)
@@ -296,7 +306,7 @@ module _ (id type : Text) (elem : Elem) (l : List Stmt) where
   parseArrayFieldFull (ElementSize.Static es) (ArraySize.StaticCount n) =
       room (Expr.lit (es * n)) ∷ Stmt.count (Expr.lit n) (slotted span) ∷ l
   parseArrayFieldFull (ElementSize.Static es) ArraySize.DynamicCount =
-      room (Expr.mul (Expr.lit es) (countVar Arrays.Full)) ∷ Stmt.count (countVar Arrays.Full) (pushed span) ∷ l
+      roomOf (Expr.lit es) (countVar Arrays.Full) ∷ Stmt.count (countVar Arrays.Full) (pushed span) ∷ l
   parseArrayFieldFull (ElementSize.Static es) ArraySize.DynamicSize =
       room (sizeVar Arrays.Full)
       ∷ fails (Test.ragged (sizeVar Arrays.Full) (Expr.lit es))
@@ -309,12 +319,12 @@ module _ (id type : Text) (elem : Elem) (l : List Stmt) where
       ∷ Stmt.count byOwn (pushed span)
       ∷ l
   parseArrayFieldFull ElementSize.Dynamic (ArraySize.StaticCount n) =
-      room (Expr.mul (elementVar Arrays.Full) (Expr.lit n))
+      roomOf (elementVar Arrays.Full) (Expr.lit n)
       ∷ Stmt.count (Expr.lit n) inPart
       ∷ Stmt.one (Line.skip span (Expr.mul (elementVar Arrays.Full) (Expr.lit n)))
       ∷ l
   parseArrayFieldFull ElementSize.Dynamic ArraySize.DynamicCount =
-      room (Expr.mul (elementVar Arrays.Full) (countVar Arrays.Full))
+      roomOf (elementVar Arrays.Full) (countVar Arrays.Full)
       ∷ Stmt.count (countVar Arrays.Full) inPart
       ∷ Stmt.one (Line.skip span (Expr.mul (elementVar Arrays.Full) (countVar Arrays.Full)))
       ∷ l
@@ -341,12 +351,12 @@ module _ (id type : Text) (elem : Elem) (l : List Stmt) where
       ∷ l
   parseArrayFieldFull ElementSize.Unknown ArraySize.Unknown = Stmt.while (Test.more span) (movedPush span) ∷ l
 
-abbrev pub byMode : Arrays → Text → Text → Elem → List Stmt → ElementSize → ArraySize → List Stmt
-byMode Arrays.Lite id type elem l e n = parseArrayFieldLite id type elem l e n
-byMode Arrays.Full id type elem l e n = parseArrayFieldFull id type elem l e n
+abbrev pub byMode : Arrays → Products → Text → Text → Elem → List Stmt → ElementSize → ArraySize → List Stmt
+byMode Arrays.Lite o id type elem l e n = parseArrayFieldLite o id type elem l e n
+byMode Arrays.Full o id type elem l e n = parseArrayFieldFull o id type elem l e n
 
 abbrev pub arrayLines : Array → List Stmt → List Stmt
-arrayLines a l = byMode (a .mode) (a .id) (a .type) (a .elem) l (a .elementSize) (a .arraySize)
+arrayLines a l = byMode (a .mode) (a .products) (a .id) (a .type) (a .elem) l (a .elementSize) (a .arraySize)
 
 abbrev pub sizeName : Array → Text
 sizeName a = named (a .mode) (a .id) (text "_size_")

@@ -317,6 +317,7 @@ abbrev pub arrayOf : Setting → Part → MaybeNumber → MaybePart → MaybeNum
 arrayOf c id width type size =
     record {
       mode = c .options .arrays;
+      products = c .options .products;
       id = written c id;
       type = typeName c type;
       elementSize = elementSize (c .source) (c .scope) (c .fields) id width type;

@@ -32,6 +32,8 @@ pub data Test : Type 0 where
   equal : Expr → Expr → Test
   -- `b == 0 || (a % b) != 0`
   raggedOrZero : Expr → Expr → Test
+  -- `b != 0 && a / b < c` (document 02, Card 8)
+  divided : Expr → Expr → Expr → Test
   -- `s.size() > 0`
   more : Text → Test
   -- `!T::Parse(s, &x)`
@@ -144,6 +146,7 @@ testText (Test.less a b) t = exprText a (text " < " ++ exprText b t)
 testText (Test.ragged a b) t = text "(" ++ exprText (Expr.rem a b) (text ") != 0" ++ t)
 testText (Test.equal a b) t = exprText a (text " == " ++ exprText b t)
 testText (Test.raggedOrZero a b) t = exprText b (text " == 0 || (" ++ exprText (Expr.rem a b) (text ") != 0" ++ t))
+testText (Test.divided a b c) t = exprText b (text " != 0 && " ++ exprText (Expr.div a b) (text " < " ++ exprText c t))
 testText (Test.more s) t = s ++ (text ".size() > 0" ++ t)
 testText (Test.notParsed type s x) t = text "!" ++ (type ++ (text "::Parse(" ++ (s ++ (text ", &" ++ (x ++ (text ")" ++ t))))))
 testText (Test.notValid type x) t = text "!IsValid" ++ (type ++ (text "(" ++ (x ++ (text ")" ++ t))))

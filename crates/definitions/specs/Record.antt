@@ -36,6 +36,8 @@ use Rattle.definitions.specs.declared.Trailing.{Trailing}
 use Rattle.definitions.specs.declared.TrailingRead.{TrailingRead}
 use Rattle.definitions.specs.declared.Raw.{Raw}
 use Rattle.definitions.specs.declared.RawRead.{RawRead}
+use Rattle.definitions.specs.declared.Products.{Products}
+use Rattle.definitions.specs.declared.ProductsRead.{ProductsRead}
 use Rattle.definitions.specs.declared.OptionalRead.{OptionalRead}
 use Rattle.definitions.specs.declared.HeadRead.{HeadRead}
 use Rattle.definitions.specs.declared.DeclRead.{DeclRead}
@@ -388,18 +390,35 @@ rawAt s at =
     (onFound (keyAt s at (text "raw=numbered\n")) (record { raw = Raw.Plain; next = at }) λ p. record { raw = Raw.Numbered; next = p })
     λ p. record { raw = Raw.Plain; next = p }
 
-abbrev pub behindTrailing : Trailing → RawRead → OptionalRead
-behindTrailing trailing w = record { trailing = trailing; raw = w .raw; next = w .next }
+-- document 02, Card 8: the same
+unfoldable pub productsAt : Text → ℕ → ProductsRead
+productsAt s at =
+    onFound (keyAt s at (text "products=plain\n"))
+    (onFound (keyAt s at (text "products=divide\n")) (record { products = Products.Plain; next = at }) λ p.
+    record { products = Products.Divide; next = p })
+    λ p. record { products = Products.Plain; next = p }
+
+-- behind `trailing` and `raw`
+abbrev pub behindRaw : Text → Trailing → RawRead → OptionalRead
+behindRaw s trailing w =
+    let p = productsAt s (w .next) in
+    record { trailing = trailing; raw = w .raw; products = p .products; next = p .next }
+
+abbrev pub behindTrailing : Text → TrailingRead → OptionalRead
+behindTrailing s t = behindRaw s (t .trailing) (rawAt s (t .next))
 
 -- the lines that may be absent, in their order
 unfoldable pub optionalAt : Text → ℕ → OptionalRead
-optionalAt s at = behindTrailing (trailingAt s at .trailing) (rawAt s (trailingAt s at .next))
+optionalAt s at = behindTrailing s (trailingAt s at)
 
 -- behind `arrays`
 abbrev pub headIs : EndiannessValue → Part → Arrays → OptionalRead → HeadRead
 headIs endianness target arrays t =
     HeadRead.Is
-    (record { options = record { endianness = endianness; arrays = arrays; trailing = t .trailing; raw = t .raw }; target = target })
+    (record {
+      options = record { endianness = endianness; arrays = arrays; trailing = t .trailing; raw = t .raw; products = t .products };
+      target = target;
+    })
     (t .next)
 
 unfoldable pub headAt : Text → ℕ → HeadRead

@@ -52,12 +52,20 @@ pub enum Raw {
     Numbered,
 }
 
+// How an array's check asks whether A * B bytes are there: plain as in cxx.rs, by the product; divide by a division, which no count takes past its type
+// (document 02, Card 8).
+pub enum Products {
+    Plain,
+    Divide,
+}
+
 // What the head chooses beside the target, handed on whole from the reader to the writer.
 pub struct Options {
     pub endianness: EndiannessValue,
     pub arrays: Arrays,
     pub trailing: Trailing,
     pub raw: Raw,
+    pub products: Products,
 }
 
 pub struct Head {
@@ -292,7 +300,7 @@ pub enum FieldRead {
     Wrong,
 }
 
-// An optional line of the head, and the place behind it: `trailing`, `raw`.
+// An optional line of the head, and the place behind it: `trailing`, `raw`, `products`.
 pub struct TrailingRead {
     pub trailing: Trailing,
     pub next: usize,
@@ -303,10 +311,16 @@ pub struct RawRead {
     pub next: usize,
 }
 
+pub struct ProductsRead {
+    pub products: Products,
+    pub next: usize,
+}
+
 // All of them.
 pub struct OptionalRead {
     pub trailing: Trailing,
     pub raw: Raw,
+    pub products: Products,
     pub next: usize,
 }
 

@@ -1,7 +1,6 @@
 // The bytes of the block that a field which is no bit field appends: `BlockAt` of emits, with its names as parts of the record. Document 01,
 // 'Lowering': the arms of `parse` of cxx.rs for such fields, and those of `parse_optional_field`.
 use arrays::ArrayShape;
-use definitions::Arrays;
 use definitions::MaybeNumber;
 use definitions::MaybePart;
 use definitions::Options;
@@ -32,7 +31,7 @@ fn put_array(
     rec: &[u8],
     out: &mut [u8],
     at: usize,
-    arrays: Arrays,
+    options: Options,
     padding: MaybeNumber,
     id: Part,
     type_id: MaybePart,
@@ -40,16 +39,16 @@ fn put_array(
 ) -> usize
     requires { ⌜ ProductFits (shape .«element_size») (shape .«array_size») ⌝ }
     ensures { λ r. ⌜ ((w : ℕ) → Put (now (out .entry)) at
-        (blockText (arrayBlock (now (rec .entry)) arrays w padding id «type_id»
+        (blockText (arrayBlock (now (rec .entry)) options w padding id «type_id»
         (shape .element) (shape .modifier) (shape .«element_size») (shape .«array_size»)))
         r (now (out .exit))) ⌝ }
 {
     let name = names::part(rec, id);
     let ty = type_name(rec, type_id);
     match padding {
-        MaybeNumber::None => arrays::put_array(out, at, arrays, name, ty, shape),
+        MaybeNumber::None => arrays::put_array(out, at, options, name, ty, shape),
         MaybeNumber::Some(bytes) => {
-            padding_lines::put_padded_array(out, at, bytes, arrays, name, ty, shape)
+            padding_lines::put_padded_array(out, at, bytes, options, name, ty, shape)
         }
     }
 }
@@ -65,7 +64,7 @@ pub fn put_block<'a>(
 ) -> usize
     requires { ⌜ BlockFits block ⌝ }
     ensures { λ r. let s : Text = now (rec .entry) in let w : Text = now (word .entry) in
-        ⌜ ((bits : Part → ℕ) → Put (now (out .entry)) at (blockText (blockOf s w (options .endianness) (options .arrays) bits block)) r (now (out .exit))) ⌝ }
+        ⌜ ((bits : Part → ℕ) → Put (now (out .entry)) at (blockText (blockOf s w options bits block)) r (now (out .exit))) ⌝ }
 {
     let arrays = options.arrays;
     match block {
@@ -96,7 +95,7 @@ pub fn put_block<'a>(
                 element_size,
                 array_size,
             };
-            put_array(rec, out, at, arrays, padding, id, type_id, shape)
+            put_array(rec, out, at, options, padding, id, type_id, shape)
         }
         BlockAt::OptionalScalar {
             cond,

@@ -21,7 +21,7 @@ use Rattle.fields.specs.Values.{optionalType, optionalAt, otherOf, other
 module _ (c : Setting) where
   -- the definitions' `Emit` that a value stands for
   abbrev emit : EmitAt → Emit
-  emit e = emitOf (c .source) (text "payload") (c .options .endianness) (c .options .arrays) (λ id. sizeBacking (c .source) id (c .fields)) e
+  emit e = emitOf (c .source) (text "payload") (c .options) (λ id. sizeBacking (c .source) id (c .fields)) e
 
   -- ---- an optional field
 

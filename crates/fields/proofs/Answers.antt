@@ -119,7 +119,7 @@ module _ (s rows values fields : List ℕ) (i n k : ℕ) (o : Options) where
 
   -- ---- what it stands for: the definitions' `parseUnchecked`
 
-  pub answer-agrees : emitOf s (text "payload") (o .endianness) (o .arrays) (λ id. sizeBacking s id fs) answer
+  pub answer-agrees : emitOf s (text "payload") o (λ id. sizeBacking s id fs) answer
       ≡ parseUnchecked (settingAt tables i n o) 0 here later
   answer-agrees = unchecked-agree (settingAt tables i n o) here later
 

@@ -6,13 +6,14 @@ use Rattle.definitions.specs.Bytes.{Text, text}
 use Rattle.definitions.specs.Lines.{Expr, Before, Dest, Out, Line, Stmt}
 use Rattle.definitions.specs.Blocks.{span, named, bare, parseArrayElement}
 use Rattle.definitions.specs.declared.Arrays.{Arrays}
+use Rattle.definitions.specs.declared.Products.{Products}
 use Rattle.expressions.specs.Amounts.{termOf}
 use Rattle.expressions.specs.declared.Term.{Term}
 use Rattle.expressions.specs.declared.Amount.{Amount}
 use Rattle.elements.specs.Elements.{elementOf, loopOf, inPart}
 use Rattle.elements.specs.declared.Element.{Element}
 use Rattle.elements.specs.declared.Loop.{Loop}
-use Rattle.array_lines.specs.Statements.{raggedTest, raggedOrZeroTest, skipStmt, checkStmt}
+use Rattle.array_lines.specs.Statements.{raggedTest, raggedOrZeroTest, skipStmt, productStmt}
 
 -- `auto {id}_count_ = s / e;`
 abbrev pub ownCountStmt : Text → Term → Term → Stmt
@@ -33,9 +34,9 @@ countedStmts id type s es element =
     ∷ []
 
 -- the check of e * n bytes, n parts, and the skip behind them
-abbrev pub productParts : Text → Text → Term → List Stmt
-productParts id type n =
-    checkStmt Arrays.Full id (Amount.Product Term.ElementSize n)
+abbrev pub productParts : Products → Text → Text → Term → List Stmt
+productParts o id type n =
+    productStmt o Arrays.Full id Term.ElementSize n
     ∷ loopOf Arrays.Full id (Loop.Times (Amount.Of n)) (inPart id type)
     ∷ skipStmt Arrays.Full id (Amount.Product Term.ElementSize n)
     ∷ []

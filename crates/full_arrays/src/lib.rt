@@ -3,6 +3,7 @@
 use definitions::ArraySize;
 use definitions::Arrays;
 use definitions::ElementSize;
+use definitions::Products;
 use elements::Element;
 use elements::Loop;
 use elements::Place;
@@ -14,6 +15,7 @@ ghost use Rattle.expressions.specs.Statements.{stmtBytes, stmtsBytes};
 ghost use Rattle.array_lines.specs.Products.{ProductFits};
 ghost use Rattle.full_arrays.specs.Statements.{ownCountStmt, ownSpanStmt, countedStmts, productParts, countedParts};
 ghost use Rattle.full_arrays.specs.Shapes.{fullText};
+ghost use Rattle.definitions.specs.declared.Products.{Products};
 
 // ---- statements
 
@@ -85,15 +87,26 @@ fn put_counted(
 }
 
 // The check of e * n bytes, n parts, and the skip behind them.
-fn put_product_parts(out: &mut [u8], at: usize, id: &[u8], type_id: &[u8], count: Term) -> usize
-    ensures { λ r. ⌜ Put (now (out .entry)) at (stmtsBytes (productParts (now (id .entry)) (now («type_id» .entry)) count)) r (now (out .exit)) ⌝ }
+fn put_product_parts(
+    out: &mut [u8],
+    at: usize,
+    products: Products,
+    id: &[u8],
+    type_id: &[u8],
+    count: Term,
+) -> usize
+    ensures { λ r. ⌜ Put (now (out .entry)) at
+        (stmtsBytes (productParts products (now (id .entry)) (now («type_id» .entry)) count))
+        r (now (out .exit)) ⌝ }
 {
-    let p = expressions::check_size(
+    let p = array_lines::check_product(
         out,
         at,
+        products,
         Arrays::Full,
         id,
-        Amount::Product(Term::ElementSize, count),
+        Term::ElementSize,
+        count,
     );
     let q = elements::put_parts(out, p, id, type_id, Loop::Times(Amount::Of(count)));
     array_lines::put_skip(
@@ -119,6 +132,7 @@ fn put_counted_parts(out: &mut [u8], at: usize, id: &[u8], type_id: &[u8], size:
 fn put_static_full(
     out: &mut [u8],
     at: usize,
+    products: Products,
     id: &[u8],
     type_id: &[u8],
     element: Element,
@@ -127,7 +141,7 @@ fn put_static_full(
 ) -> usize
     requires { ⌜ ProductFits (ElementSize.Static «element_size») «array_size» ⌝ }
     ensures { λ r. ⌜ Put (now (out .entry)) at
-        (fullText (now (id .entry)) (now («type_id» .entry)) element (ElementSize.Static «element_size») «array_size»)
+        (fullText products (now (id .entry)) (now («type_id» .entry)) element (ElementSize.Static «element_size») «array_size»)
         r (now (out .exit)) ⌝ }
 {
     match array_size {
@@ -151,12 +165,14 @@ fn put_static_full(
             )
         }
         ArraySize::DynamicCount => {
-            let p = expressions::check_size(
+            let p = array_lines::check_product(
                 out,
                 at,
+                products,
                 Arrays::Full,
                 id,
-                Amount::Product(Term::Literal(element_size), Term::Count),
+                Term::Literal(element_size),
+                Term::Count,
             );
             elements::put_elements(
                 out,
@@ -179,24 +195,26 @@ fn put_static_full(
 fn put_dynamic_full(
     out: &mut [u8],
     at: usize,
+    products: Products,
     id: &[u8],
     type_id: &[u8],
     element: Element,
     array_size: ArraySize,
 ) -> usize
     ensures { λ r. ⌜ Put (now (out .entry)) at
-        (fullText (now (id .entry)) (now («type_id» .entry)) element ElementSize.Dynamic «array_size»)
+        (fullText products (now (id .entry)) (now («type_id» .entry)) element ElementSize.Dynamic «array_size»)
         r (now (out .exit)) ⌝ }
 {
     match array_size {
         ArraySize::StaticCount(count) => put_product_parts(
             out,
             at,
+            products,
             id,
             type_id,
             Term::Literal(count),
         ),
-        ArraySize::DynamicCount => put_product_parts(out, at, id, type_id, Term::Count),
+        ArraySize::DynamicCount => put_product_parts(out, at, products, id, type_id, Term::Count),
         ArraySize::DynamicSize => {
             let p = expressions::check_size(out, at, Arrays::Full, id, Amount::Of(Term::Size));
             let q = put_counted_parts(out, p, id, type_id, Term::Size);
@@ -209,6 +227,7 @@ fn put_dynamic_full(
     }
 }
 
+// No product is checked here, under either word.
 fn put_unknown_full(
     out: &mut [u8],
     at: usize,
@@ -218,7 +237,7 @@ fn put_unknown_full(
     array_size: ArraySize,
 ) -> usize
     ensures { λ r. ⌜ Put (now (out .entry)) at
-        (fullText (now (id .entry)) (now («type_id» .entry)) element ElementSize.Unknown «array_size»)
+        (fullText Products.Plain (now (id .entry)) (now («type_id» .entry)) element ElementSize.Unknown «array_size»)
         r (now (out .exit)) ⌝ }
 {
     match array_size {
@@ -264,6 +283,7 @@ fn put_unknown_full(
 pub fn parse_array_field_full(
     out: &mut [u8],
     at: usize,
+    products: Products,
     id: &[u8],
     type_id: &[u8],
     element: Element,
@@ -271,19 +291,30 @@ pub fn parse_array_field_full(
     array_size: ArraySize,
 ) -> usize
     requires { ⌜ ProductFits «element_size» «array_size» ⌝ }
-    ensures { λ r. ⌜ Put (now (out .entry)) at (fullText (now (id .entry)) (now («type_id» .entry)) element «element_size» «array_size») r (now (out .exit)) ⌝ }
+    ensures { λ r. ⌜ Put (now (out .entry)) at
+        (fullText products (now (id .entry)) (now («type_id» .entry)) element «element_size» «array_size»)
+        r (now (out .exit)) ⌝ }
 {
     match element_size {
         ElementSize::Static(size) => put_static_full(
             out,
             at,
+            products,
             id,
             type_id,
             element,
             size,
             array_size,
         ),
-        ElementSize::Dynamic => put_dynamic_full(out, at, id, type_id, element, array_size),
+        ElementSize::Dynamic => put_dynamic_full(
+            out,
+            at,
+            products,
+            id,
+            type_id,
+            element,
+            array_size,
+        ),
         ElementSize::Unknown => put_unknown_full(out, at, id, type_id, element, array_size),
     }
 }

@@ -76,9 +76,11 @@ module _ (a : Array) (h : ArrayShort a) where
   array-lines : (l : List Stmt) → length (render (arrayLines a l)) ≤ shape (a .elementSize) + length (render l)
   array-lines l = by (a .mode)
     where
-      by : (m : Arrays) → length (render (byMode m (a .id) (a .type) (a .elem) l (a .elementSize) (a .arraySize))) ≤ shape (a .elementSize) + length (render l)
-      by Arrays.Lite = lite (a .id) (a .type) (a .elem) l (h .id) (h .type) (h .elem) (a .elementSize) (a .arraySize) (h .count)
-      by Arrays.Full = full (a .id) (a .type) (a .elem) l (h .id) (h .type) (h .elem) (a .elementSize) (a .arraySize) (h .count)
+      by : (m : Arrays)
+          → length (render (byMode m (a .products) (a .id) (a .type) (a .elem) l (a .elementSize) (a .arraySize)))
+          ≤ shape (a .elementSize) + length (render l)
+      by Arrays.Lite = lite (a .id) (a .type) (a .elem) l (h .id) (h .type) (h .elem) (a .products) (a .elementSize) (a .arraySize) (h .count)
+      by Arrays.Full = full (a .id) (a .type) (a .elem) l (h .id) (h .type) (h .elem) (a .products) (a .elementSize) (a .arraySize) (h .count)
 
   size-name : length (sizeName a) ≤ 46
   size-name = by (a .mode)

@@ -14,6 +14,7 @@ use Rattle.definitions.specs.declared.EndiannessValue.{EndiannessValue}
 use Rattle.definitions.specs.declared.ElementSize.{ElementSize}
 use Rattle.definitions.specs.declared.Arrays.{Arrays}
 use Rattle.definitions.specs.declared.ArraySize.{ArraySize}
+use Rattle.definitions.specs.declared.Products.{Products}
 use Rattle.lengths.specs.Shares.{shape}
 use Rattle.lengths.proofs.Digits.{decimal-any, decimal-count, decimal-width}
 
@@ -64,19 +65,23 @@ Counted ArraySize.DynamicSize = Unit {0}
 Counted ArraySize.Unknown = Unit {0}
 
 module _ (id type : Text) (elem : Elem) (l : List Stmt) (i : length id ≤ 32) (t : length type ≤ 32) (k : ElemShort elem) where
-  pub lite : (e : ElementSize) (n : ArraySize) → Counted n → length (render (parseArrayFieldLite id type elem l e n)) ≤ shape e + length (render l)
-  lite (ElementSize.Static es) (ArraySize.StaticCount n) c = simp length-append (omega (arith, decimal-any (es * n)))
-  lite (ElementSize.Static es) ArraySize.DynamicCount c = simp length-append (omega (arith, decimal-any es))
-  lite (ElementSize.Static es) ArraySize.DynamicSize c = simp length-append (omega (arith, decimal-any es))
-  lite (ElementSize.Static es) ArraySize.Unknown c = simp length-append (omega (arith, decimal-any es))
-  lite ElementSize.Dynamic (ArraySize.StaticCount n) c = simp length-append (omega (arith, decimal-count n c, decimal-any 0))
-  lite ElementSize.Dynamic ArraySize.DynamicCount c = simp length-append (omega (arith, decimal-any 0))
-  lite ElementSize.Dynamic ArraySize.DynamicSize c = simp length-append (omega arith)
-  lite ElementSize.Dynamic ArraySize.Unknown c = simp length-append (omega arith)
-  lite ElementSize.Unknown (ArraySize.StaticCount n) c = simp length-append (omega (arith, decimal-any n))
-  lite ElementSize.Unknown ArraySize.DynamicCount c = simp length-append (omega arith)
-  lite ElementSize.Unknown ArraySize.DynamicSize c = simp length-append (omega arith)
-  lite ElementSize.Unknown ArraySize.Unknown c = simp length-append (omega arith)
+  pub lite : (o : Products) (e : ElementSize) (n : ArraySize) → Counted n
+      → length (render (parseArrayFieldLite o id type elem l e n)) ≤ shape e + length (render l)
+  lite o (ElementSize.Static es) (ArraySize.StaticCount n) c = simp length-append (omega (arith, decimal-any (es * n)))
+  lite Products.Plain (ElementSize.Static es) ArraySize.DynamicCount c = simp length-append (omega (arith, decimal-any es))
+  lite Products.Divide (ElementSize.Static es) ArraySize.DynamicCount c = simp length-append (omega (arith, decimal-any es))
+  lite o (ElementSize.Static es) ArraySize.DynamicSize c = simp length-append (omega (arith, decimal-any es))
+  lite o (ElementSize.Static es) ArraySize.Unknown c = simp length-append (omega (arith, decimal-any es))
+  lite Products.Plain ElementSize.Dynamic (ArraySize.StaticCount n) c = simp length-append (omega (arith, decimal-count n c, decimal-any 0))
+  lite Products.Divide ElementSize.Dynamic (ArraySize.StaticCount n) c = simp length-append (omega (arith, decimal-count n c, decimal-any 0))
+  lite Products.Plain ElementSize.Dynamic ArraySize.DynamicCount c = simp length-append (omega (arith, decimal-any 0))
+  lite Products.Divide ElementSize.Dynamic ArraySize.DynamicCount c = simp length-append (omega (arith, decimal-any 0))
+  lite o ElementSize.Dynamic ArraySize.DynamicSize c = simp length-append (omega arith)
+  lite o ElementSize.Dynamic ArraySize.Unknown c = simp length-append (omega arith)
+  lite o ElementSize.Unknown (ArraySize.StaticCount n) c = simp length-append (omega (arith, decimal-any n))
+  lite o ElementSize.Unknown ArraySize.DynamicCount c = simp length-append (omega arith)
+  lite o ElementSize.Unknown ArraySize.DynamicSize c = simp length-append (omega arith)
+  lite o ElementSize.Unknown ArraySize.Unknown c = simp length-append (omega arith)
 
   abbrev y : Text
   y = named Arrays.Full id (text "_")
@@ -90,16 +95,20 @@ module _ (id type : Text) (elem : Elem) (l : List Stmt) (i : length id ≤ 32) (
   pushed : length (linesText 4 (parseArrayElement span elem (Dest.push y) Out.out) end) ≤ 310 + length end
   pushed = element-short elem (Dest.push y) end k (simp length-append (omega arith))
 
-  pub full : (e : ElementSize) (n : ArraySize) → Counted n → length (render (parseArrayFieldFull id type elem l e n)) ≤ shape e + length (render l)
-  full (ElementSize.Static es) (ArraySize.StaticCount n) c = simp length-append (omega (arith, slotted, decimal-any (es * n), decimal-any n))
-  full (ElementSize.Static es) ArraySize.DynamicCount c = simp length-append (omega (arith, pushed, decimal-any es))
-  full (ElementSize.Static es) ArraySize.DynamicSize c = simp length-append (omega (arith, pushed, decimal-any es))
-  full (ElementSize.Static es) ArraySize.Unknown c = simp length-append (omega (arith, pushed, decimal-any es))
-  full ElementSize.Dynamic (ArraySize.StaticCount n) c = simp length-append (omega (arith, decimal-count n c))
-  full ElementSize.Dynamic ArraySize.DynamicCount c = simp length-append (omega arith)
-  full ElementSize.Dynamic ArraySize.DynamicSize c = simp length-append (omega arith)
-  full ElementSize.Dynamic ArraySize.Unknown c = simp length-append (omega arith)
-  full ElementSize.Unknown (ArraySize.StaticCount n) c = simp length-append (omega (arith, decimal-any n))
-  full ElementSize.Unknown ArraySize.DynamicCount c = simp length-append (omega arith)
-  full ElementSize.Unknown ArraySize.DynamicSize c = simp length-append (omega arith)
-  full ElementSize.Unknown ArraySize.Unknown c = simp length-append (omega arith)
+  pub full : (o : Products) (e : ElementSize) (n : ArraySize) → Counted n
+      → length (render (parseArrayFieldFull o id type elem l e n)) ≤ shape e + length (render l)
+  full o (ElementSize.Static es) (ArraySize.StaticCount n) c = simp length-append (omega (arith, slotted, decimal-any (es * n), decimal-any n))
+  full Products.Plain (ElementSize.Static es) ArraySize.DynamicCount c = simp length-append (omega (arith, pushed, decimal-any es))
+  full Products.Divide (ElementSize.Static es) ArraySize.DynamicCount c = simp length-append (omega (arith, pushed, decimal-any es))
+  full o (ElementSize.Static es) ArraySize.DynamicSize c = simp length-append (omega (arith, pushed, decimal-any es))
+  full o (ElementSize.Static es) ArraySize.Unknown c = simp length-append (omega (arith, pushed, decimal-any es))
+  full Products.Plain ElementSize.Dynamic (ArraySize.StaticCount n) c = simp length-append (omega (arith, decimal-count n c))
+  full Products.Divide ElementSize.Dynamic (ArraySize.StaticCount n) c = simp length-append (omega (arith, decimal-count n c))
+  full Products.Plain ElementSize.Dynamic ArraySize.DynamicCount c = simp length-append (omega arith)
+  full Products.Divide ElementSize.Dynamic ArraySize.DynamicCount c = simp length-append (omega arith)
+  full o ElementSize.Dynamic ArraySize.DynamicSize c = simp length-append (omega arith)
+  full o ElementSize.Dynamic ArraySize.Unknown c = simp length-append (omega arith)
+  full o ElementSize.Unknown (ArraySize.StaticCount n) c = simp length-append (omega (arith, decimal-any n))
+  full o ElementSize.Unknown ArraySize.DynamicCount c = simp length-append (omega arith)
+  full o ElementSize.Unknown ArraySize.DynamicSize c = simp length-append (omega arith)
+  full o ElementSize.Unknown ArraySize.Unknown c = simp length-append (omega arith)

@@ -7,18 +7,20 @@ use Rattle.definitions.specs.Bytes.{Text, text, decimal, digitsIn}
 use Rattle.definitions.specs.Lines.{Line, Stmt, exprText}
 use Rattle.definitions.specs.Blocks.{span, named, parseLines}
 use Rattle.definitions.specs.declared.Arrays.{Arrays}
+use Rattle.definitions.specs.declared.Products.{Products}
 use Rattle.text.specs.Put.{Put}
 use Rattle.text.proofs.Puts.{chain, like}
 use Rattle.stream.proofs.Texts.{piece, _▸_, expr-leads}
 use Rattle.expressions.specs.Amounts.{amountOf}
 use Rattle.expressions.specs.Statements.{stmtBytes, stmtsBytes}
+use Rattle.expressions.specs.declared.Term.{Term}
 use Rattle.expressions.specs.declared.Amount.{Amount}
 use Rattle.expressions.proofs.Follow.{follow, first}
 use Rattle.elements.specs.Elements.{loopOf}
 use Rattle.elements.specs.declared.Loop.{Loop}
-use Rattle.array_lines.specs.Statements.{checkStmt, skipStmt}
+use Rattle.array_lines.specs.Statements.{checkStmt, productStmt, skipStmt}
 use Rattle.array_lines.proofs.Laws.{three}
-use Rattle.lite_arrays.specs.Statements.{zeroTest, cutStmts, takenStmts, wholeStmts, eatenStmt, parsedSpan}
+use Rattle.lite_arrays.specs.Statements.{zeroTest, cutStmts, takenStmts, productStmts, wholeStmts, eatenStmt, parsedSpan}
 
 -- `0` of a test
 zero-text : text "0" ≡ decimal 0
@@ -47,6 +49,11 @@ module _ (id : Text) where
         → Put l₁ r₁ (stmtsBytes (cutStmts id a)) r₂ l₂
         → Put l i (stmtsBytes (takenStmts id a)) r₂ l₂
     taken-lines p q = first (checkStmt Arrays.Lite id a) (cutStmts id a) p q
+
+  pub product-lines : (o : Products) (e n : Term) {l l₁ l₂ : Text} {i r₁ r₂ : ℕ} → Put l i (stmtBytes (productStmt o Arrays.Lite id e n)) r₁ l₁
+      → Put l₁ r₁ (stmtsBytes (cutStmts id (Amount.Product e n))) r₂ l₂
+      → Put l i (stmtsBytes (productStmts o id e n)) r₂ l₂
+  product-lines o e n p q = first (productStmt o Arrays.Lite id e n) (cutStmts id (Amount.Product e n)) p q
 
   pub whole-lines : {l l₁ : Text} {i r : ℕ} → Put l i (named Arrays.Lite id (text "_") ++ text " = span;\nspan.clear();\n") r l₁
       → Put l i (stmtsBytes (wholeStmts id)) r l₁

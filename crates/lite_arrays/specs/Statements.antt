@@ -5,12 +5,13 @@ use Rattle.definitions.specs.Bytes.{Text, text}
 use Rattle.definitions.specs.Lines.{Expr, Test, Before, Line, Stmt}
 use Rattle.definitions.specs.Blocks.{span, named, parseLines}
 use Rattle.definitions.specs.declared.Arrays.{Arrays}
+use Rattle.definitions.specs.declared.Products.{Products}
 use Rattle.expressions.specs.Amounts.{termOf, amountOf}
 use Rattle.expressions.specs.declared.Term.{Term}
 use Rattle.expressions.specs.declared.Amount.{Amount}
 use Rattle.elements.specs.Elements.{loopOf}
 use Rattle.elements.specs.declared.Loop.{Loop}
-use Rattle.array_lines.specs.Statements.{skipStmt, checkStmt}
+use Rattle.array_lines.specs.Statements.{skipStmt, checkStmt, productStmt}
 
 -- `if ({id}_element_size_ == 0) {` ..
 abbrev pub zeroTest : Text → Stmt
@@ -26,6 +27,10 @@ cutStmts id a =
 -- the same behind the check of so many bytes
 abbrev pub takenStmts : Text → Amount → List Stmt
 takenStmts id a = checkStmt Arrays.Lite id a ∷ cutStmts id a
+
+-- and behind the check of e * n bytes
+abbrev pub productStmts : Products → Text → Term → Term → List Stmt
+productStmts o id e n = productStmt o Arrays.Lite id e n ∷ cutStmts id (Amount.Product e n)
 
 -- `{id}_ = span;`, `span.clear();`
 abbrev pub wholeStmts : Text → List Stmt

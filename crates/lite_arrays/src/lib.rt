@@ -3,14 +3,16 @@
 use definitions::ArraySize;
 use definitions::Arrays;
 use definitions::ElementSize;
+use definitions::Products;
 use elements::Loop;
 use expressions::Amount;
 use expressions::Term;
 ghost use Rattle.text.specs.Put.{Put};
 ghost use Rattle.expressions.specs.Statements.{stmtBytes, stmtsBytes};
 ghost use Rattle.array_lines.specs.Products.{ProductFits};
-ghost use Rattle.lite_arrays.specs.Statements.{zeroTest, cutStmts, takenStmts, wholeStmts, eatenStmt, parsedSpan};
+ghost use Rattle.lite_arrays.specs.Statements.{zeroTest, cutStmts, takenStmts, productStmts, wholeStmts, eatenStmt, parsedSpan};
 ghost use Rattle.lite_arrays.specs.Shapes.{liteText};
+ghost use Rattle.definitions.specs.declared.Products.{Products};
 
 // ---- statements
 
@@ -54,6 +56,21 @@ fn put_taken(out: &mut [u8], at: usize, id: &[u8], amount: Amount) -> usize
     put_cut(out, p, id, amount)
 }
 
+// And behind the check of e * n bytes.
+fn put_product(
+    out: &mut [u8],
+    at: usize,
+    products: Products,
+    id: &[u8],
+    element: Term,
+    count: Term,
+) -> usize
+    ensures { λ r. ⌜ Put (now (out .entry)) at (stmtsBytes (productStmts products (now (id .entry)) element count)) r (now (out .exit)) ⌝ }
+{
+    let p = array_lines::check_product(out, at, products, Arrays::Lite, id, element, count);
+    put_cut(out, p, id, Amount::Product(element, count))
+}
+
 // `{id}_ = span;`, `span.clear();`
 fn put_whole(out: &mut [u8], at: usize, id: &[u8]) -> usize
     ensures { λ r. ⌜ Put (now (out .entry)) at (stmtsBytes (wholeStmts (now (id .entry)))) r (now (out .exit)) ⌝ }
@@ -91,6 +108,7 @@ fn put_parsed_span(out: &mut [u8], at: usize, id: &[u8], type_id: &[u8], head: L
 fn put_static_lite(
     out: &mut [u8],
     at: usize,
+    products: Products,
     id: &[u8],
     type_id: &[u8],
     element_size: u64,
@@ -98,7 +116,7 @@ fn put_static_lite(
 ) -> usize
     requires { ⌜ ProductFits (ElementSize.Static «element_size») «array_size» ⌝ }
     ensures { λ r. ⌜ Put (now (out .entry)) at
-        (liteText (now (id .entry)) (now («type_id» .entry)) (ElementSize.Static «element_size») «array_size»)
+        (liteText products (now (id .entry)) (now («type_id» .entry)) (ElementSize.Static «element_size») «array_size»)
         r (now (out .exit)) ⌝ }
 {
     match array_size {
@@ -106,11 +124,13 @@ fn put_static_lite(
             let total_size = element_size * count;
             put_taken(out, at, id, Amount::Of(Term::Literal(total_size)))
         }
-        ArraySize::DynamicCount => put_taken(
+        ArraySize::DynamicCount => put_product(
             out,
             at,
+            products,
             id,
-            Amount::Product(Term::Literal(element_size), Term::Count),
+            Term::Literal(element_size),
+            Term::Count,
         ),
         ArraySize::DynamicSize => {
             let p = expressions::check_size(out, at, Arrays::Lite, id, Amount::Of(Term::Size));
@@ -141,25 +161,30 @@ fn put_static_lite(
 fn put_dynamic_lite(
     out: &mut [u8],
     at: usize,
+    products: Products,
     id: &[u8],
     type_id: &[u8],
     array_size: ArraySize,
 ) -> usize
-    ensures { λ r. ⌜ Put (now (out .entry)) at (liteText (now (id .entry)) (now («type_id» .entry)) ElementSize.Dynamic «array_size») r (now (out .exit)) ⌝ }
+    ensures { λ r. ⌜ Put (now (out .entry)) at
+        (liteText products (now (id .entry)) (now («type_id» .entry)) ElementSize.Dynamic «array_size»)
+        r (now (out .exit)) ⌝ }
 {
     match array_size {
         ArraySize::StaticCount(count) => {
             let p = put_zero(out, at, id);
-            put_taken(
+            put_product(
                 out,
                 p,
+                products,
                 id,
-                Amount::Product(Term::ElementSize, Term::Literal(count)),
+                Term::ElementSize,
+                Term::Literal(count),
             )
         }
         ArraySize::DynamicCount => {
             let p = put_zero(out, at, id);
-            put_taken(out, p, id, Amount::Product(Term::ElementSize, Term::Count))
+            put_product(out, p, products, id, Term::ElementSize, Term::Count)
         }
         ArraySize::DynamicSize => {
             let p = expressions::check_size(out, at, Arrays::Lite, id, Amount::Of(Term::Size));
@@ -173,6 +198,7 @@ fn put_dynamic_lite(
     }
 }
 
+// No product is checked here, under either word.
 fn put_unknown_lite(
     out: &mut [u8],
     at: usize,
@@ -180,7 +206,9 @@ fn put_unknown_lite(
     type_id: &[u8],
     array_size: ArraySize,
 ) -> usize
-    ensures { λ r. ⌜ Put (now (out .entry)) at (liteText (now (id .entry)) (now («type_id» .entry)) ElementSize.Unknown «array_size») r (now (out .exit)) ⌝ }
+    ensures { λ r. ⌜ Put (now (out .entry)) at
+        (liteText Products.Plain (now (id .entry)) (now («type_id» .entry)) ElementSize.Unknown «array_size»)
+        r (now (out .exit)) ⌝ }
 {
     match array_size {
         ArraySize::StaticCount(count) => put_parsed_span(
@@ -205,17 +233,28 @@ fn put_unknown_lite(
 pub fn parse_array_field_lite(
     out: &mut [u8],
     at: usize,
+    products: Products,
     id: &[u8],
     type_id: &[u8],
     element_size: ElementSize,
     array_size: ArraySize,
 ) -> usize
     requires { ⌜ ProductFits «element_size» «array_size» ⌝ }
-    ensures { λ r. ⌜ Put (now (out .entry)) at (liteText (now (id .entry)) (now («type_id» .entry)) «element_size» «array_size») r (now (out .exit)) ⌝ }
+    ensures { λ r. ⌜ Put (now (out .entry)) at
+        (liteText products (now (id .entry)) (now («type_id» .entry)) «element_size» «array_size»)
+        r (now (out .exit)) ⌝ }
 {
     match element_size {
-        ElementSize::Static(size) => put_static_lite(out, at, id, type_id, size, array_size),
-        ElementSize::Dynamic => put_dynamic_lite(out, at, id, type_id, array_size),
+        ElementSize::Static(size) => put_static_lite(
+            out,
+            at,
+            products,
+            id,
+            type_id,
+            size,
+            array_size,
+        ),
+        ElementSize::Dynamic => put_dynamic_lite(out, at, products, id, type_id, array_size),
         ElementSize::Unknown => put_unknown_lite(out, at, id, type_id, array_size),
     }
 }

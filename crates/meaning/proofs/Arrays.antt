@@ -11,14 +11,15 @@ use Rattle.definitions.specs.Bytes.{text, Text}
 use Rattle.definitions.specs.Lines.{Expr, Test, Before, Dest, Out, Line, Stmt}
 use Rattle.meaning.specs.Machine.{Cause, put, State, putSpan, putVar, num, over, limited, eval, excusing}
 use Rattle.meaning.specs.Plain.{Operands}
-use Rattle.definitions.specs.Blocks.{span, raw, elementSpan, checkSize, Elem, parseArrayElement, parseLines, prefix, named, bare, Array, parseArrayFieldLite, parseArrayFieldFull, byMode, arrayLines, startName}
+use Rattle.definitions.specs.Blocks.{span, raw, elementSpan, checkSize, checkProduct, Elem, parseArrayElement, parseLines, prefix, named, bare, Array, parseArrayFieldLite, parseArrayFieldFull, byMode, arrayLines, startName}
 use Rattle.meaning.proofs.Wellformed.{reads, Apart, ElemOk}
 use Rattle.definitions.specs.declared.ElementSize.{ElementSize}
 use Rattle.definitions.specs.declared.ArraySize.{ArraySize}
 use Rattle.definitions.specs.declared.Arrays.{Arrays}
+use Rattle.definitions.specs.declared.Products.{Products}
 use Rattle.meaning.proofs.Names.{apart-ends, apart-length, put-other, put-same}
 use Rattle.meaning.proofs.Wp.{Post, of-in, right-in, wpLines, Up, down, lines-up, count-up, while-up, held}
-use Rattle.meaning.proofs.Pieces.{Sizeless, sizeless-operands, known, product-num, limited-num, minus-num, unlessZero-num, natural-is, positive, by-check, line, Kept, cut-run, each-up, Still, parts-up}
+use Rattle.meaning.proofs.Pieces.{Sizeless, sizeless-operands, known, ComesTo, come, product-num, product-room, minus-num, unlessZero-num, natural-is, positive, by-check, line, Kept, cut-run, each-up, Still, parts-up}
 
 -- ---- names
 
@@ -68,15 +69,15 @@ module _ (id T : Text) (E : Elem) (k : ℕ) (l : List Stmt) (σ : State) (rest :
   abbrev z : Text
   z = startName id
 
-  cut-up : (e : Expr) → Sizeless e → (n : ℕ) → eval excusing σ e ≡ num (pos n) → n ≤ held σ
+  cut-up : (e : Expr) → Sizeless e → (n : ℕ) → ComesTo σ (eval excusing σ e) n → n ≤ held σ
       → Up k (Stmt.one (Line.front Before.old x span e) ∷ Stmt.one (Line.skip span e) ∷ l) σ
-  cut-up e se n ev le =
-      lines-up k (Line.front Before.old x span e ∷ Line.skip span e ∷ []) l σ (cut-run x e (x-span id) se z (Up k l) σ n ev le rest)
+  cut-up e se n c le =
+      lines-up k (Line.front Before.old x span e ∷ Line.skip span e ∷ []) l σ (cut-run x e (x-span id) se z (Up k l) σ n c le rest)
 
   room-cut : (e : Expr) → Sizeless e → Up k (Stmt.one (checkSize e) ∷ Stmt.one (Line.front Before.old x span e) ∷ Stmt.one (Line.skip span e) ∷ l) σ
   room-cut e se =
       line k (checkSize e) _ σ (right-in σ _ _ e (sizeless-operands e se σ)
-      (by-check (eval excusing σ e) (held σ) _ (λ n ev le. cut-up e se n ev le)))
+      (by-check (eval excusing σ e) (held σ) _ (λ n ev le. cut-up e se n (known σ (eval excusing σ e) n _ ev refl) le)))
 
   whole-up : Up k (Stmt.one (Line.keep x span) ∷ Stmt.one (Line.clear span) ∷ l) σ
   whole-up = lines-up k (Line.keep x span ∷ Line.clear span ∷ []) l σ (rest _ (omega arith, refl))
@@ -108,7 +109,7 @@ module _ (id T : Text) (E : Elem) (k : ℕ) (l : List Stmt) (σ : State) (rest :
   eaten-up τ i =
       line k (Line.front Before.old x x (Expr.sub (Expr.size x) (Expr.size span))) l τ (
         (tt, tt, tt, tt),
-        known (num (pos (length (τ .spans x)) -ℤ pos (held τ))) (length (τ .spans x) - held τ) _ (minus-num (length (τ .spans x)) (held τ) (i .0)) (
+        known τ (num (pos (length (τ .spans x)) -ℤ pos (held τ))) (length (τ .spans x) - held τ) _ (minus-num (length (τ .spans x)) (held τ) (i .0)) (
           omega arith,
           rest _ (omega (arith, ap length (put-other (τ .spans) x (take (length (τ .spans x) - held τ) (τ .spans x)) span (x-span id))), i .1 .1),
         ),
@@ -126,7 +127,8 @@ module _ (id T : Text) (E : Elem) (k : ℕ) (l : List Stmt) (σ : State) (rest :
       line k (Line.keep x span) _ σ
       (down k (Stmt.count e lines ∷ eaten) _
       (count-up e lines eaten Both Both
-      (λ τ i. of-in τ _ e (sizeless-operands e se τ) (known (eval excusing τ e) (ev τ .0) _ (ev τ .1) (λ m. parse-both τ i, λ m. i))) k eaten-up _ kept-both))
+      (λ τ i. of-in τ _ e (sizeless-operands e se τ) (known τ (eval excusing τ e) (ev τ .0) _ (ev τ .1) (λ m. parse-both τ i, λ m. i)))
+      k eaten-up _ kept-both))
 
   while-eaten : Up k (Stmt.one (Line.keep x span) ∷ Stmt.while (Test.more span) lines ∷ eaten) σ
   while-eaten =
@@ -136,32 +138,51 @@ module _ (id T : Text) (E : Elem) (k : ℕ) (l : List Stmt) (σ : State) (rest :
   some-of : (es : ℕ) → 0 < es → es ≡ 0 → ⊥
   some-of es h e = omega arith
 
-  pub lite-up : (w : ElementSize) (m : ArraySize) → ElemOk w E → Up k (parseArrayFieldLite id T E l w m) σ
-  lite-up (ElementSize.Static es) (ArraySize.StaticCount n) h = room-cut _ tt
-  lite-up (ElementSize.Static es) ArraySize.DynamicCount h = room-cut _ (tt, tt)
-  lite-up (ElementSize.Static es) ArraySize.DynamicSize h =
+  abbrev count : Text
+  count = named Arrays.Lite id (text "_count_")
+
+  abbrev element : Text
+  element = named Arrays.Lite id (text "_element_size_")
+
+  pub lite-up : (o : Products) (w : ElementSize) (m : ArraySize) → ElemOk w E → Up k (parseArrayFieldLite o id T E l w m) σ
+  lite-up o (ElementSize.Static es) (ArraySize.StaticCount n) h = room-cut _ tt
+  lite-up o (ElementSize.Static es) ArraySize.DynamicCount h =
+      product-room o k _ σ (Expr.lit es) (Expr.var count) es (σ .vars count) tt tt refl refl (λ le. cut-up _ (tt, tt) _ (product-num σ _ le) le)
+  lite-up o (ElementSize.Static es) ArraySize.DynamicSize h =
       line k (checkSize _) _ σ (
         λ _. tt,
         λ le.
             line k (Line.check 4 _) _ σ
-            ((tt, tt, tt, positive es (some-of es (h .0))), known _ _ _ (unlessZero-num es _ _ (some-of es (h .0))) (λ _. cut-up _ tt _ refl le, tt)),
+            ((tt, tt, tt, positive es (some-of es (h .0))), known σ _ _ _ (unlessZero-num es _ _ (some-of es (h .0))) (λ _. cut-up _ tt _ refl le, tt)),
       )
-  lite-up (ElementSize.Static es) ArraySize.Unknown h =
-      line k (Line.check 4 _) _ σ ((tt, tt, tt, positive es (some-of es (h .0))), known _ _ _ (unlessZero-num es _ _ (some-of es (h .0))) (λ _. whole-up, tt))
-  lite-up ElementSize.Dynamic (ArraySize.StaticCount n) h = line k (Line.check 4 _) _ σ (tt, room-cut _ (tt, tt))
-  lite-up ElementSize.Dynamic ArraySize.DynamicCount h = line k (Line.check 4 _) _ σ (tt, room-cut _ (tt, tt))
-  lite-up ElementSize.Dynamic ArraySize.DynamicSize h =
+  lite-up o (ElementSize.Static es) ArraySize.Unknown h =
+      line k (Line.check 4 _) _ σ
+      ((tt, tt, tt, positive es (some-of es (h .0))), known σ _ _ _ (unlessZero-num es _ _ (some-of es (h .0))) (λ _. whole-up, tt))
+  lite-up o ElementSize.Dynamic (ArraySize.StaticCount n) h =
+      line k (Line.check 4 _) _ σ (
+        tt,
+        product-room o k _ σ (Expr.var element) (Expr.lit n) (σ .vars element) n tt tt refl refl (λ le. cut-up _ (tt, tt) _ (product-num σ _ le) le),
+      )
+  lite-up o ElementSize.Dynamic ArraySize.DynamicCount h =
+      line k (Line.check 4 _) _ σ (
+        tt,
+        product-room o k _ σ (Expr.var element) (Expr.var count) (σ .vars element) (σ .vars count) tt tt refl refl
+            (λ le. cut-up _ (tt, tt) _ (product-num σ _ le) le),
+      )
+  lite-up o ElementSize.Dynamic ArraySize.DynamicSize h =
       line k (checkSize _) _ σ (
         λ _. tt,
-        λ le. line k (Line.check 4 _) _ σ (λ _. tt, λ ne. ((tt, tt, tt, positive _ ne), known _ _ _ (unlessZero-num _ _ _ ne) (λ _. cut-up _ tt _ refl le, tt))),
+        λ le.
+            line k (Line.check 4 _) _ σ
+            (λ _. tt, λ ne. ((tt, tt, tt, positive _ ne), known σ _ _ _ (unlessZero-num _ _ _ ne) (λ _. cut-up _ tt _ refl le, tt))),
       )
-  lite-up ElementSize.Dynamic ArraySize.Unknown h =
-      line k (Line.check 4 _) _ σ (λ _. tt, λ ne. ((tt, tt, tt, positive _ ne), known _ _ _ (unlessZero-num _ _ _ ne) (λ _. whole-up, tt)))
-  lite-up ElementSize.Unknown (ArraySize.StaticCount n) h = count-eaten (Expr.lit n) tt (λ τ. (n, refl))
-  lite-up ElementSize.Unknown ArraySize.DynamicCount h =
-      count-eaten (Expr.var (named Arrays.Lite id (text "_count_"))) tt (λ τ. (τ .vars (named Arrays.Lite id (text "_count_")), refl))
-  lite-up ElementSize.Unknown ArraySize.DynamicSize h = room-cut _ tt
-  lite-up ElementSize.Unknown ArraySize.Unknown h = while-eaten
+  lite-up o ElementSize.Dynamic ArraySize.Unknown h =
+      line k (Line.check 4 _) _ σ (λ _. tt, λ ne. ((tt, tt, tt, positive _ ne), known σ _ _ _ (unlessZero-num _ _ _ ne) (λ _. whole-up, tt)))
+  lite-up o ElementSize.Unknown (ArraySize.StaticCount n) h = count-eaten (Expr.lit n) tt (λ τ. (n, refl))
+  lite-up o ElementSize.Unknown ArraySize.DynamicCount h =
+      count-eaten (Expr.var count) tt (λ τ. (τ .vars count, refl))
+  lite-up o ElementSize.Unknown ArraySize.DynamicSize h = room-cut _ tt
+  lite-up o ElementSize.Unknown ArraySize.Unknown h = while-eaten
 
 -- ---- full
 
@@ -198,7 +219,7 @@ module _ (id T : Text) (E : Elem) (k : ℕ) (l : List Stmt) (σ : State) (rest :
   own-each e q d ev le =
       line k (Line.setTo Before.auto ownVar e) _ σ
       (of-in σ _ e d
-      (known (eval excusing σ e) q _ ev
+      (known σ (eval excusing σ e) q _ ev
       (each-up startVar (raw-start id) k l (putVar σ ownVar q)
       (λ τ kept. rest τ (kept .0, kept .1 ∙ put-other (σ .vars) ownVar q startVar (own-start id)))
       (Expr.var ownVar) (raw-own id) q E (Dest.push (named Arrays.Full id (text "_"))) Out.out (ap (λ (n : ℕ). num (pos n)) (put-same (σ .vars) ownVar q)) le)))
@@ -217,27 +238,24 @@ module _ (id T : Text) (E : Elem) (k : ℕ) (l : List Stmt) (σ : State) (rest :
       line k (Line.skip span (Expr.mul (Expr.var elementVar) e)) l τ (
         (tt, d τ, tt, natural-is _ m (ev τ (s .0))),
         rw (ev τ (s .0))
-            (product-num (τ .vars elementVar * m) _
+            (come τ (limited (over Cause.byProduct) (pos (τ .vars elementVar * m))) (τ .vars elementVar * m) _
+            (product-num τ (τ .vars elementVar * m) p)
             (p, rest _ (omega (arith, length-drop (τ .vars elementVar * m) (τ .spans span)), ap (λ (f : Text → ℕ). f startVar) (s .0)))),
       )
 
   -- a product's room, its parts, and its skip
-  product-parts : (e : Expr) (m : ℕ) → ((τ : State) → Operands τ e) → ((τ : State) → τ .vars ≡ σ .vars → eval excusing τ e ≡ num (pos m))
+  product-parts : (o : Products) (e : Expr) (m : ℕ) → ((τ : State) → Operands τ e)
+      → ((τ : State) → τ .vars ≡ σ .vars → eval excusing τ e ≡ num (pos m))
       → Up k
-      (Stmt.one (checkSize (Expr.mul (Expr.var elementVar) e))
+      (Stmt.one (checkProduct o (Expr.var elementVar) e)
       ∷ Stmt.count e inPart
       ∷ Stmt.one (Line.skip span (Expr.mul (Expr.var elementVar) e))
       ∷ l) σ
-  product-parts e m d ev =
-      line k (checkSize (Expr.mul (Expr.var elementVar) e)) _ σ (
-        (tt, d σ, tt, natural-is _ m (ev σ refl)),
-        rw (ev σ refl)
-            (by-check (limited (over Cause.byProduct) (pos (σ .vars elementVar * m))) (held σ) _
-            (λ n q le.
-            let b : σ .vars elementVar * m ≤ held σ = omega (arith, limited-num (σ .vars elementVar * m) n q) in
-            parts-up k _ σ (skip-product e m d ev b) e m elementVar T (Dest.slot (named Arrays.Full id (text "_"))) Out.out d ev
-            (omega (arith, mul-comm m (σ .vars elementVar))))),
-      )
+  product-parts o e m d ev =
+      product-room o k _ σ (Expr.var elementVar) e (σ .vars elementVar) m tt (d σ) refl (ev σ refl)
+      (λ le.
+      parts-up k _ σ (skip-product e m d ev le) e m elementVar T (Dest.slot (named Arrays.Full id (text "_"))) Out.out d ev
+      (omega (arith, mul-comm m (σ .vars elementVar))))
 
   -- a count of one's ownVar, and that many parts
   own-parts : (e : Expr) (S : ℕ) (after : List Stmt) → Operands σ e → eval excusing σ e ≡ num (pos (S / σ .vars elementVar)) → S ≤ held σ
@@ -248,7 +266,7 @@ module _ (id T : Text) (E : Elem) (k : ℕ) (l : List Stmt) (σ : State) (rest :
       let w : put (σ .vars) ownVar q elementVar ≡ σ .vars elementVar = put-other (σ .vars) ownVar q elementVar (own-esize id) in
       line k (Line.setTo Before.auto ownVar e) _ σ
       (of-in σ _ e d
-      (known (eval excusing σ e) q _ ev
+      (known σ (eval excusing σ e) q _ ev
       (parts-up k after (putVar σ ownVar q)
       (λ τ s.
       f τ (ap (λ (g : Text → ℕ). g sizeVar) (s .0) ∙ put-other (σ .vars) ownVar q sizeVar (own-size id))
@@ -293,30 +311,27 @@ module _ (id T : Text) (E : Elem) (k : ℕ) (l : List Stmt) (σ : State) (rest :
             ),
       )
 
-  pub full-up : (w : ElementSize) (m : ArraySize) → ElemOk w E → Up k (parseArrayFieldFull id T E l w m) σ
-  full-up (ElementSize.Static es) (ArraySize.StaticCount n) h =
+  pub full-up : (o : Products) (w : ElementSize) (m : ArraySize) → ElemOk w E → Up k (parseArrayFieldFull o id T E l w m) σ
+  full-up o (ElementSize.Static es) (ArraySize.StaticCount n) h =
       line k (checkSize _) _ σ (
         λ _. tt,
         λ le.
             each-up startVar (raw-start id) k l σ rest (Expr.lit n) tt n E (Dest.slot (named Arrays.Full id (text "_"))) Out.out refl
             (scaled n es (held σ) (h .1) (omega (arith, mul-comm n es))),
       )
-  full-up (ElementSize.Static es) ArraySize.DynamicCount h =
-      line k (checkSize _) _ σ (
-        (tt, tt, tt, tt),
-        by-check (limited (over Cause.byProduct) (pos (es * σ .vars countVar))) (held σ) _
-            (λ n ev le.
-            each-up startVar (raw-start id) k l σ rest (Expr.var countVar) (raw-count Arrays.Full id)
-            (σ .vars countVar) E (Dest.push (named Arrays.Full id (text "_"))) Out.out refl
-            (scaled (σ .vars countVar) es (held σ) (h .1) (omega (arith, mul-comm (σ .vars countVar) es, limited-num (es * σ .vars countVar) n ev)))),
-      )
-  full-up (ElementSize.Static es) ArraySize.DynamicSize h =
+  full-up o (ElementSize.Static es) ArraySize.DynamicCount h =
+      product-room o k _ σ (Expr.lit es) (Expr.var countVar) es (σ .vars countVar) tt tt refl refl
+      (λ le.
+      each-up startVar (raw-start id) k l σ rest (Expr.var countVar) (raw-count Arrays.Full id)
+      (σ .vars countVar) E (Dest.push (named Arrays.Full id (text "_"))) Out.out refl
+      (scaled (σ .vars countVar) es (held σ) (h .1) (omega (arith, mul-comm (σ .vars countVar) es))))
+  full-up o (ElementSize.Static es) ArraySize.DynamicSize h =
       line k (checkSize _) _ σ (
         λ _. tt,
         λ le.
             line k (Line.check 4 _) _ σ (
               (tt, tt, tt, positive es (nonzero es (h .0))),
-              known _ _ _ (unlessZero-num es _ _ (nonzero es (h .0))) (
+              known σ _ _ _ (unlessZero-num es _ _ (nonzero es (h .0))) (
                 λ _.
                     own-each _ (σ .vars sizeVar / es) (tt, tt, tt, positive es (nonzero es (h .0))) (unlessZero-num es _ _ (nonzero es (h .0)))
                     (scaled (σ .vars sizeVar / es) es (held σ) (h .1) (omega (arith, div-mul-le-self (σ .vars sizeVar) es))),
@@ -324,20 +339,20 @@ module _ (id T : Text) (E : Elem) (k : ℕ) (l : List Stmt) (σ : State) (rest :
               ),
             ),
       )
-  full-up (ElementSize.Static es) ArraySize.Unknown h =
+  full-up o (ElementSize.Static es) ArraySize.Unknown h =
       line k (Line.check 4 _) _ σ (
         (tt, tt, tt, positive es (nonzero es (h .0))),
-        known _ _ _ (unlessZero-num es _ _ (nonzero es (h .0))) (
+        known σ _ _ _ (unlessZero-num es _ _ (nonzero es (h .0))) (
           λ _.
               own-each _ (held σ / es) (tt, tt, tt, positive es (nonzero es (h .0))) (unlessZero-num es _ _ (nonzero es (h .0)))
               (scaled (held σ / es) es (held σ) (h .1) (div-mul-le-self (held σ) es)),
           tt,
         ),
       )
-  full-up ElementSize.Dynamic (ArraySize.StaticCount n) h = product-parts (Expr.lit n) n (λ τ. tt) (λ τ v. refl)
-  full-up ElementSize.Dynamic ArraySize.DynamicCount h =
-      product-parts (Expr.var countVar) (σ .vars countVar) (λ τ. tt) (λ τ v. ap (λ (f : Text → ℕ). num (pos (f countVar))) v)
-  full-up ElementSize.Dynamic ArraySize.DynamicSize h =
+  full-up o ElementSize.Dynamic (ArraySize.StaticCount n) h = product-parts o (Expr.lit n) n (λ τ. tt) (λ τ v. refl)
+  full-up o ElementSize.Dynamic ArraySize.DynamicCount h =
+      product-parts o (Expr.var countVar) (σ .vars countVar) (λ τ. tt) (λ τ v. ap (λ (f : Text → ℕ). num (pos (f countVar))) v)
+  full-up o ElementSize.Dynamic ArraySize.DynamicSize h =
       line k (checkSize _) _ σ (
         λ _. tt,
         λ le.
@@ -345,7 +360,7 @@ module _ (id T : Text) (E : Elem) (k : ℕ) (l : List Stmt) (σ : State) (rest :
               λ _. tt,
               λ ne. (
                 (tt, tt, tt, positive _ ne),
-                known _ _ _ (unlessZero-num _ _ _ ne) (
+                known σ _ _ _ (unlessZero-num _ _ _ ne) (
                   λ _.
                       own-parts _ (σ .vars sizeVar) (Stmt.one (Line.skip span (Expr.var sizeVar)) ∷ l) (tt, tt, tt, positive _ ne) (unlessZero-num _ _ _ ne) le
                       (λ τ a b c.
@@ -356,12 +371,12 @@ module _ (id T : Text) (E : Elem) (k : ℕ) (l : List Stmt) (σ : State) (rest :
               ),
             ),
       )
-  full-up ElementSize.Dynamic ArraySize.Unknown h =
+  full-up o ElementSize.Dynamic ArraySize.Unknown h =
       line k (Line.check 4 _) _ σ (
         λ _. tt,
         λ ne. (
           (tt, tt, tt, positive _ ne),
-          known _ _ _ (unlessZero-num _ _ _ ne) (
+          known σ _ _ _ (unlessZero-num _ _ _ ne) (
             λ _.
                 own-parts _ (held σ) (Stmt.one (Line.clear span) ∷ l) (tt, tt, tt, positive _ ne) (unlessZero-num _ _ _ ne) (omega arith)
                 (λ τ a b c. line k (Line.clear span) l τ (rest _ (omega arith, b))),
@@ -369,13 +384,13 @@ module _ (id T : Text) (E : Elem) (k : ℕ) (l : List Stmt) (σ : State) (rest :
           ),
         ),
       )
-  full-up ElementSize.Unknown (ArraySize.StaticCount n) h =
+  full-up o ElementSize.Unknown (ArraySize.StaticCount n) h =
       each-up startVar (raw-start id) k l σ rest (Expr.lit n) tt n (Elem.parsed T) (Dest.slot (named Arrays.Full id (text "_"))) Out.moved refl (omega arith)
-  full-up ElementSize.Unknown ArraySize.DynamicCount h =
+  full-up o ElementSize.Unknown ArraySize.DynamicCount h =
       each-up startVar (raw-start id) k l σ rest (Expr.var countVar) (raw-count Arrays.Full id)
       (σ .vars countVar) (Elem.parsed T) (Dest.push (named Arrays.Full id (text "_"))) Out.moved refl (omega arith)
-  full-up ElementSize.Unknown ArraySize.DynamicSize h = sized-up (Dest.push (named Arrays.Full id (text "_"))) Out.moved
-  full-up ElementSize.Unknown ArraySize.Unknown h =
+  full-up o ElementSize.Unknown ArraySize.DynamicSize h = sized-up (Dest.push (named Arrays.Full id (text "_"))) Out.moved
+  full-up o ElementSize.Unknown ArraySize.Unknown h =
       while-up (Test.more span) _ l (Kept startVar σ) (Kept startVar σ)
       (λ τ i. (parse-kept τ (Dest.push (named Arrays.Full id (text "_"))) Out.moved i, i)) k rest σ (omega arith, refl)
 
@@ -384,6 +399,6 @@ pub array-up : (a : Array) → ElemOk (a .elementSize) (a .elem) → (k : ℕ) (
     → ((τ : State) → Kept (startName (a .id)) σ τ → Up k l τ) → Up k (arrayLines a l) σ
 array-up a h k l σ rest = by (a .mode)
   where
-    by : (m : Arrays) → Up k (byMode m (a .id) (a .type) (a .elem) l (a .elementSize) (a .arraySize)) σ
-    by Arrays.Lite = lite-up (a .id) (a .type) (a .elem) k l σ rest (a .elementSize) (a .arraySize) h
-    by Arrays.Full = full-up (a .id) (a .type) (a .elem) k l σ rest (a .elementSize) (a .arraySize) h
+    by : (m : Arrays) → Up k (byMode m (a .products) (a .id) (a .type) (a .elem) l (a .elementSize) (a .arraySize)) σ
+    by Arrays.Lite = lite-up (a .id) (a .type) (a .elem) k l σ rest (a .products) (a .elementSize) (a .arraySize) h
+    by Arrays.Full = full-up (a .id) (a .type) (a .elem) k l σ rest (a .products) (a .elementSize) (a .arraySize) h

@@ -75,7 +75,8 @@ demand-3 s bs e =
     }
 
 -- Stronger than asked: wherever a run of the lines has come, the line that is run next uses no number below zero but on the right of a `<`, and
--- divides by no zero. So what these would give, which the machine has from outside, does not matter: proofs/Outside.
+-- divides by no zero. So what these would give, which the machine has from outside, does not matter: proofs/Outside. Nor, where the span has fewer
+-- than 2^31 bytes, does it use a product past 2^31 − 1 but on the right of a `<`: only a plain check of a product asks for one (document 02, Card 8).
 pub plain : (s : Text) (bs : List Block) → answer s ≡ accepted bs
     → (frame : List ℕ) (vars : Text → ℕ) (replies : List Reply) (steps : ℕ) (σ : State) (l : List Stmt)
     → run steps (start frame vars replies) (program bs) ≡ running σ l → PlainNext σ l

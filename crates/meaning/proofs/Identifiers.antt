@@ -19,6 +19,7 @@ use Rattle.definitions.specs.declared.Arrays.{Arrays}
 use Rattle.definitions.specs.declared.Modifier.{Modifier}
 use Rattle.definitions.specs.declared.ElementSize.{ElementSize}
 use Rattle.definitions.specs.declared.ArraySize.{ArraySize}
+use Rattle.definitions.specs.declared.Products.{Products}
 use Rattle.definitions.specs.declared.Head.{Head}
 use Rattle.meaning.specs.Identifiers.{turn, exprIds, srcIds, testIds, destIds, outIds, lineIds, linesIds, stmtIds, identifiers, behindArrow}
 use Rattle.meaning.proofs.Keywords.{NotKeyword, span-end, start-end, bare-free, named-free, chunk-free, raw-free, tested-free}
@@ -146,44 +147,50 @@ module _ (id type : Text) (e : Elem) (typed : NotKeyword type) (elem : ElemNames
 
   ruleset variables = (fixed, array-free, size-free, count-free, one-free, own-free)
 
-  lite-free : (w : ElementSize) (n : ArraySize) → StmtsFree (parseArrayFieldLite id type e l w n)
-  lite-free (ElementSize.Static es) (ArraySize.StaticCount n) = search variables depth 20
-  lite-free (ElementSize.Static es) ArraySize.DynamicCount = search variables depth 20
-  lite-free (ElementSize.Static es) ArraySize.DynamicSize = search variables depth 20
-  lite-free (ElementSize.Static es) ArraySize.Unknown = search variables depth 20
-  lite-free ElementSize.Dynamic (ArraySize.StaticCount n) = search variables depth 20
-  lite-free ElementSize.Dynamic ArraySize.DynamicCount = search variables depth 20
-  lite-free ElementSize.Dynamic ArraySize.DynamicSize = search variables depth 20
-  lite-free ElementSize.Dynamic ArraySize.Unknown = search variables depth 20
-  lite-free ElementSize.Unknown (ArraySize.StaticCount n) = search variables depth 20
-  lite-free ElementSize.Unknown ArraySize.DynamicCount = search variables depth 20
-  lite-free ElementSize.Unknown ArraySize.DynamicSize = search variables depth 20
-  lite-free ElementSize.Unknown ArraySize.Unknown = search variables depth 20
+  lite-free : (o : Products) (w : ElementSize) (n : ArraySize) → StmtsFree (parseArrayFieldLite o id type e l w n)
+  lite-free o (ElementSize.Static es) (ArraySize.StaticCount n) = search variables depth 20
+  lite-free Products.Plain (ElementSize.Static es) ArraySize.DynamicCount = search variables depth 20
+  lite-free Products.Divide (ElementSize.Static es) ArraySize.DynamicCount = search variables depth 20
+  lite-free o (ElementSize.Static es) ArraySize.DynamicSize = search variables depth 20
+  lite-free o (ElementSize.Static es) ArraySize.Unknown = search variables depth 20
+  lite-free Products.Plain ElementSize.Dynamic (ArraySize.StaticCount n) = search variables depth 20
+  lite-free Products.Divide ElementSize.Dynamic (ArraySize.StaticCount n) = search variables depth 20
+  lite-free Products.Plain ElementSize.Dynamic ArraySize.DynamicCount = search variables depth 20
+  lite-free Products.Divide ElementSize.Dynamic ArraySize.DynamicCount = search variables depth 20
+  lite-free o ElementSize.Dynamic ArraySize.DynamicSize = search variables depth 20
+  lite-free o ElementSize.Dynamic ArraySize.Unknown = search variables depth 20
+  lite-free o ElementSize.Unknown (ArraySize.StaticCount n) = search variables depth 20
+  lite-free o ElementSize.Unknown ArraySize.DynamicCount = search variables depth 20
+  lite-free o ElementSize.Unknown ArraySize.DynamicSize = search variables depth 20
+  lite-free o ElementSize.Unknown ArraySize.Unknown = search variables depth 20
 
   -- an element that is stored so
   loop-free : (d : Dest) → Free (destIds d) → LinesFree (parseArrayElement span e d Out.out)
   loop-free d h = element-free span e d Out.out span-free elem h (out-free, tt)
 
-  full-free : (w : ElementSize) (n : ArraySize) → StmtsFree (parseArrayFieldFull id type e l w n)
-  full-free (ElementSize.Static es) (ArraySize.StaticCount n) = search (variables, loop-free) depth 20
-  full-free (ElementSize.Static es) ArraySize.DynamicCount = search (variables, loop-free) depth 20
-  full-free (ElementSize.Static es) ArraySize.DynamicSize = search (variables, loop-free) depth 20
-  full-free (ElementSize.Static es) ArraySize.Unknown = search (variables, loop-free) depth 20
-  full-free ElementSize.Dynamic (ArraySize.StaticCount n) = search variables depth 20
-  full-free ElementSize.Dynamic ArraySize.DynamicCount = search variables depth 20
-  full-free ElementSize.Dynamic ArraySize.DynamicSize = search variables depth 20
-  full-free ElementSize.Dynamic ArraySize.Unknown = search variables depth 20
-  full-free ElementSize.Unknown (ArraySize.StaticCount n) = search variables depth 20
-  full-free ElementSize.Unknown ArraySize.DynamicCount = search variables depth 20
-  full-free ElementSize.Unknown ArraySize.DynamicSize = search (variables, span-end) depth 20
-  full-free ElementSize.Unknown ArraySize.Unknown = search variables depth 20
+  full-free : (o : Products) (w : ElementSize) (n : ArraySize) → StmtsFree (parseArrayFieldFull o id type e l w n)
+  full-free o (ElementSize.Static es) (ArraySize.StaticCount n) = search (variables, loop-free) depth 20
+  full-free Products.Plain (ElementSize.Static es) ArraySize.DynamicCount = search (variables, loop-free) depth 20
+  full-free Products.Divide (ElementSize.Static es) ArraySize.DynamicCount = search (variables, loop-free) depth 20
+  full-free o (ElementSize.Static es) ArraySize.DynamicSize = search (variables, loop-free) depth 20
+  full-free o (ElementSize.Static es) ArraySize.Unknown = search (variables, loop-free) depth 20
+  full-free Products.Plain ElementSize.Dynamic (ArraySize.StaticCount n) = search variables depth 20
+  full-free Products.Divide ElementSize.Dynamic (ArraySize.StaticCount n) = search variables depth 20
+  full-free Products.Plain ElementSize.Dynamic ArraySize.DynamicCount = search variables depth 20
+  full-free Products.Divide ElementSize.Dynamic ArraySize.DynamicCount = search variables depth 20
+  full-free o ElementSize.Dynamic ArraySize.DynamicSize = search variables depth 20
+  full-free o ElementSize.Dynamic ArraySize.Unknown = search variables depth 20
+  full-free o ElementSize.Unknown (ArraySize.StaticCount n) = search variables depth 20
+  full-free o ElementSize.Unknown ArraySize.DynamicCount = search variables depth 20
+  full-free o ElementSize.Unknown ArraySize.DynamicSize = search (variables, span-end) depth 20
+  full-free o ElementSize.Unknown ArraySize.Unknown = search variables depth 20
 
 array-lines : (a : Array) (l : List Stmt) → ArrayNames NotKeyword a → StmtsFree l → StmtsFree (arrayLines a l)
 array-lines a l h k = by (a .mode)
   where
-    by : (m : Arrays) → StmtsFree (byMode m (a .id) (a .type) (a .elem) l (a .elementSize) (a .arraySize))
-    by Arrays.Lite = lite-free (a .id) (a .type) (a .elem) (h .0) (h .1) l k (a .elementSize) (a .arraySize)
-    by Arrays.Full = full-free (a .id) (a .type) (a .elem) (h .0) (h .1) l k (a .elementSize) (a .arraySize)
+    by : (m : Arrays) → StmtsFree (byMode m (a .products) (a .id) (a .type) (a .elem) l (a .elementSize) (a .arraySize))
+    by Arrays.Lite = lite-free (a .id) (a .type) (a .elem) (h .0) (h .1) l k (a .products) (a .elementSize) (a .arraySize)
+    by Arrays.Full = full-free (a .id) (a .type) (a .elem) (h .0) (h .1) l k (a .products) (a .elementSize) (a .arraySize)
 
 field-free : (m : Modifier) (w : ℕ) (a : Array) (l : List Stmt) → ArrayNames NotKeyword a → StmtsFree l → StmtsFree (fieldLines m w a l)
 field-free Modifier.None w a l h k = array-lines a l h k

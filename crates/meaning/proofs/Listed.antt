@@ -13,6 +13,7 @@ use Rattle.definitions.specs.declared.Arrays.{Arrays}
 use Rattle.definitions.specs.declared.Modifier.{Modifier}
 use Rattle.definitions.specs.declared.ElementSize.{ElementSize}
 use Rattle.definitions.specs.declared.ArraySize.{ArraySize}
+use Rattle.definitions.specs.declared.Products.{Products}
 use Rattle.lengths.proofs.Booleans.{impossible}
 use Rattle.meaning.specs.Written.{writtenLine, written}
 
@@ -79,44 +80,50 @@ element-written s (Elem.closedEnum type order w) d o = refl
 element-written s (Elem.parsed type) d o = refl
 
 module _ (id type : Text) (e : Elem) (l : List Stmt) where
-  lite-written : (w : ElementSize) (n : ArraySize) → written (parseArrayFieldLite id type e l w n) ≡ written l
-  lite-written (ElementSize.Static es) (ArraySize.StaticCount n) = refl
-  lite-written (ElementSize.Static es) ArraySize.DynamicCount = refl
-  lite-written (ElementSize.Static es) ArraySize.DynamicSize = refl
-  lite-written (ElementSize.Static es) ArraySize.Unknown = refl
-  lite-written ElementSize.Dynamic (ArraySize.StaticCount n) = refl
-  lite-written ElementSize.Dynamic ArraySize.DynamicCount = refl
-  lite-written ElementSize.Dynamic ArraySize.DynamicSize = refl
-  lite-written ElementSize.Dynamic ArraySize.Unknown = refl
-  lite-written ElementSize.Unknown (ArraySize.StaticCount n) = refl
-  lite-written ElementSize.Unknown ArraySize.DynamicCount = refl
-  lite-written ElementSize.Unknown ArraySize.DynamicSize = refl
-  lite-written ElementSize.Unknown ArraySize.Unknown = refl
+  lite-written : (o : Products) (w : ElementSize) (n : ArraySize) → written (parseArrayFieldLite o id type e l w n) ≡ written l
+  lite-written o (ElementSize.Static es) (ArraySize.StaticCount n) = refl
+  lite-written Products.Plain (ElementSize.Static es) ArraySize.DynamicCount = refl
+  lite-written Products.Divide (ElementSize.Static es) ArraySize.DynamicCount = refl
+  lite-written o (ElementSize.Static es) ArraySize.DynamicSize = refl
+  lite-written o (ElementSize.Static es) ArraySize.Unknown = refl
+  lite-written Products.Plain ElementSize.Dynamic (ArraySize.StaticCount n) = refl
+  lite-written Products.Divide ElementSize.Dynamic (ArraySize.StaticCount n) = refl
+  lite-written Products.Plain ElementSize.Dynamic ArraySize.DynamicCount = refl
+  lite-written Products.Divide ElementSize.Dynamic ArraySize.DynamicCount = refl
+  lite-written o ElementSize.Dynamic ArraySize.DynamicSize = refl
+  lite-written o ElementSize.Dynamic ArraySize.Unknown = refl
+  lite-written o ElementSize.Unknown (ArraySize.StaticCount n) = refl
+  lite-written o ElementSize.Unknown ArraySize.DynamicCount = refl
+  lite-written o ElementSize.Unknown ArraySize.DynamicSize = refl
+  lite-written o ElementSize.Unknown ArraySize.Unknown = refl
 
   -- a loop over elements that are stored so
   loop-written : (d : Dest) → all writtenLine (parseArrayElement span e d Out.out) && written l ≡ written l
   loop-written d = ap (λ (w : Bool). w && written l) (element-written span e d Out.out)
 
-  full-written : (w : ElementSize) (n : ArraySize) → written (parseArrayFieldFull id type e l w n) ≡ written l
-  full-written (ElementSize.Static es) (ArraySize.StaticCount n) = loop-written _
-  full-written (ElementSize.Static es) ArraySize.DynamicCount = loop-written _
-  full-written (ElementSize.Static es) ArraySize.DynamicSize = loop-written _
-  full-written (ElementSize.Static es) ArraySize.Unknown = loop-written _
-  full-written ElementSize.Dynamic (ArraySize.StaticCount n) = refl
-  full-written ElementSize.Dynamic ArraySize.DynamicCount = refl
-  full-written ElementSize.Dynamic ArraySize.DynamicSize = refl
-  full-written ElementSize.Dynamic ArraySize.Unknown = refl
-  full-written ElementSize.Unknown (ArraySize.StaticCount n) = refl
-  full-written ElementSize.Unknown ArraySize.DynamicCount = refl
-  full-written ElementSize.Unknown ArraySize.DynamicSize = refl
-  full-written ElementSize.Unknown ArraySize.Unknown = refl
+  full-written : (o : Products) (w : ElementSize) (n : ArraySize) → written (parseArrayFieldFull o id type e l w n) ≡ written l
+  full-written o (ElementSize.Static es) (ArraySize.StaticCount n) = loop-written _
+  full-written Products.Plain (ElementSize.Static es) ArraySize.DynamicCount = loop-written _
+  full-written Products.Divide (ElementSize.Static es) ArraySize.DynamicCount = loop-written _
+  full-written o (ElementSize.Static es) ArraySize.DynamicSize = loop-written _
+  full-written o (ElementSize.Static es) ArraySize.Unknown = loop-written _
+  full-written Products.Plain ElementSize.Dynamic (ArraySize.StaticCount n) = refl
+  full-written Products.Divide ElementSize.Dynamic (ArraySize.StaticCount n) = refl
+  full-written Products.Plain ElementSize.Dynamic ArraySize.DynamicCount = refl
+  full-written Products.Divide ElementSize.Dynamic ArraySize.DynamicCount = refl
+  full-written o ElementSize.Dynamic ArraySize.DynamicSize = refl
+  full-written o ElementSize.Dynamic ArraySize.Unknown = refl
+  full-written o ElementSize.Unknown (ArraySize.StaticCount n) = refl
+  full-written o ElementSize.Unknown ArraySize.DynamicCount = refl
+  full-written o ElementSize.Unknown ArraySize.DynamicSize = refl
+  full-written o ElementSize.Unknown ArraySize.Unknown = refl
 
 array-written : (a : Array) (l : List Stmt) → written (arrayLines a l) ≡ written l
 array-written a l = by (a .mode)
   where
-    by : (m : Arrays) → written (byMode m (a .id) (a .type) (a .elem) l (a .elementSize) (a .arraySize)) ≡ written l
-    by Arrays.Lite = lite-written (a .id) (a .type) (a .elem) l (a .elementSize) (a .arraySize)
-    by Arrays.Full = full-written (a .id) (a .type) (a .elem) l (a .elementSize) (a .arraySize)
+    by : (m : Arrays) → written (byMode m (a .products) (a .id) (a .type) (a .elem) l (a .elementSize) (a .arraySize)) ≡ written l
+    by Arrays.Lite = lite-written (a .id) (a .type) (a .elem) l (a .products) (a .elementSize) (a .arraySize)
+    by Arrays.Full = full-written (a .id) (a .type) (a .elem) l (a .products) (a .elementSize) (a .arraySize)
 
 field-written : (m : Modifier) (w : ℕ) (a : Array) (l : List Stmt) → written (fieldLines m w a l) ≡ written l
 field-written Modifier.None w a l = array-written a l

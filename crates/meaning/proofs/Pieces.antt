@@ -4,21 +4,22 @@ use mathlib.Core.Path.{_≡_, refl, sym, ap, _∙_, subst}
 use mathlib.Core.Bool.{Bool, true, false, cond}
 use mathlib.Core.List.{List, [], _∷_}
 use Prim.Native.Nat.{ℕ, zero, suc, _+_, _*_, _-_, _/_, _^_, _≤_, _<_}
-use native.Mathlib.Nat.{suc-mul, mul-le-mul-right}
+use native.Mathlib.Nat.{suc-mul, mul-comm, mul-le-mul-left, mul-le-mul-right, div-mul-le-self}
 use native.Mathlib.Omega.{arith}
 use lib.Dec.{leb, ltb}
-use borrow.Author.Tests.{ltb-true}
+use borrow.Author.Tests.{ltb-true, leb-false}
 use lib.ListN.{length, take, length-drop}
 use lib.IntN.{ℤ, pos, negsuc, _-ℤ_}
 use Rattle.definitions.specs.Bytes.{Text, pick}
-use Rattle.definitions.specs.Lines.{Expr, Before, Dest, Out, Line, Stmt}
+use Rattle.definitions.specs.Lines.{Expr, Test, Before, Dest, Out, Line, Stmt}
 use Rattle.lengths.proofs.Booleans.{impossible}
 use Rattle.meaning.specs.Machine.{Cause, put, State, putSpan, putTurns, Num, num, over, limited, unlessZero, eval, excusing}
 use Rattle.meaning.specs.Plain.{Natural, Positive, Operands}
-use Rattle.definitions.specs.Blocks.{span, raw, elementSpan, Elem, parseArrayElement}
+use Rattle.definitions.specs.Blocks.{span, raw, elementSpan, checkSize, checkProduct, Elem, parseArrayElement}
+use Rattle.definitions.specs.declared.Products.{Products}
 use Rattle.meaning.proofs.Wellformed.{reads, Apart}
 use Rattle.meaning.proofs.Names.{put-other}
-use Rattle.meaning.proofs.Wp.{Post, wpNum, wpAgainst, of-in, wpLine, wpLines, Up, down, line-up, count-up, held}
+use Rattle.meaning.proofs.Wp.{Post, wpNum, wpAgainst, num-map, of-in, wpLine, wpLines, Up, down, line-up, count-up, held}
 
 -- ---- numbers
 
@@ -97,18 +98,35 @@ sizeless-operands (Expr.sub a b) h σ = both-operands σ a b h
 sizeless-operands (Expr.div a b) h σ = absurd h
 sizeless-operands (Expr.rem a b) h σ = absurd h
 
-pub known : (v : Num) (n : ℕ) (K : ℕ → Type 0) → v ≡ num (pos n) → K n → wpNum v K
-known v n K e k = subst (λ (w : Num). wpNum w K) (sym e) k
+pub known : (σ : State) (v : Num) (n : ℕ) (K : ℕ → Type 0) → v ≡ num (pos n) → K n → wpNum σ v K
+known σ v n K e k = subst (λ (w : Num). wpNum σ w K) (sym e) k
 
--- a product within the bound, or the run is excused
-pub product-num : (p : ℕ) (K : ℕ → Type 0) → K p → wpNum (limited (over Cause.byProduct) (pos p)) K
-product-num p K k = go (leb p (2 ^ 31 - 1))
+-- the number n; or past 2^31 − 1, and then the run is excused, a product only where the span is as long
+abbrev pub ComesTo : State → Num → ℕ → Type 0
+ComesTo σ v n = wpNum σ v (λ m. m ≡ n)
+
+pub come : (σ : State) (v : Num) (n : ℕ) (K : ℕ → Type 0) → ComesTo σ v n → K n → wpNum σ v K
+come σ v n K c k = num-map σ v (λ m. m ≡ n) K (λ m e. subst K (sym e) k) c
+
+come-again : (σ τ : State) (v w : Num) (n : ℕ) → held τ ≡ held σ → w ≡ v → ComesTo σ v n → ComesTo τ w n
+come-again σ τ v w n h e c = subst (λ (u : Num). ComesTo τ u n) (sym e) (by v c)
   where
-    go : (b : Bool) → wpNum (pick b (num (pos p)) (over Cause.byProduct)) K
-    go true = k
-    go false = tt
+    by : (u : Num) → ComesTo σ u n → ComesTo τ u n
+    by (num (pos m)) d = d
+    by (num (negsuc m)) d = d
+    by (over Cause.bySum) d = tt
+    by (over Cause.byProduct) d = λ short. d (omega arith)
+    by (over Cause.byParser) d = tt
 
-pub limited-num : (m n : ℕ) → limited (over Cause.byProduct) (pos m) ≡ num (pos n) → m ≡ n
+-- so does a product that fits into the span
+pub product-num : (σ : State) (p : ℕ) → p ≤ held σ → ComesTo σ (limited (over Cause.byProduct) (pos p)) p
+product-num σ p le = go (leb p (2 ^ 31 - 1)) refl
+  where
+    go : (b : Bool) → leb p (2 ^ 31 - 1) ≡ b → ComesTo σ (pick b (num (pos p)) (over Cause.byProduct)) p
+    go true e = refl
+    go false e = λ short. omega (arith, leb-false p (2 ^ 31 - 1) e)
+
+limited-num : (m n : ℕ) → limited (over Cause.byProduct) (pos m) ≡ num (pos n) → m ≡ n
 limited-num m n = go (leb m (2 ^ 31 - 1))
   where
     go : (b : Bool) → pick b (num (pos m)) (over Cause.byProduct) ≡ num (pos n) → m ≡ n
@@ -146,21 +164,47 @@ by-check (over why) h K k = tt
 pub line : (k : ℕ) (x : Line) (l : List Stmt) (σ : State) → wpLine x (Up k l) σ → Up k (Stmt.one x ∷ l) σ
 line k x l σ h = down k (Stmt.one x ∷ l) σ (line-up k x l σ h)
 
+divided-fits : (p q h : ℕ) → q ≤ h / p → p * q ≤ h
+divided-fits p q h le = omega (arith, mul-le-mul-left {m = q} {n = h / p} p le, mul-comm p (h / p), div-mul-le-self h p)
+
+-- behind the check of a product, by itself or by a division, that many bytes are there
+pub product-room : (o : Products) (k : ℕ) (l : List Stmt) (σ : State) (a b : Expr) (p q : ℕ) → Operands σ a → Operands σ b
+    → eval excusing σ a ≡ num (pos p) → eval excusing σ b ≡ num (pos q) → (p * q ≤ held σ → Up k l σ) → Up k (Stmt.one (checkProduct o a b) ∷ l) σ
+product-room Products.Plain k l σ a b p q d e u v rest =
+    line k (checkSize (Expr.mul a b)) l σ (
+      (d, e, natural-is _ p u, natural-is _ q v),
+      rw (u, v)
+          (by-check (limited (over Cause.byProduct) (pos (p * q))) (held σ) _ (λ n w le. rest (omega (arith, limited-num (p * q) n w)))),
+    )
+product-room Products.Divide k l σ a b p q d e u v rest =
+    line k (Line.check 4 (Test.divided (Expr.size span) a b)) l σ
+    (of-in σ _ a d
+    (known σ (eval excusing σ a) p _ u (
+      λ z. rest (omega (arith, ap (λ (i : ℕ). i * q) z)),
+      λ nz. (
+        (tt, d, tt, subst Positive (sym u) (positive p nz)),
+        rw u
+            (known σ (num (unlessZero (pos p) (pos 0) (pos (held σ / p)))) (held σ / p) _ (unlessZero-num p _ _ nz)
+            (of-in σ _ b e (known σ (eval excusing σ b) q _ v (λ _. tt, λ le. rest (divided-fits p q (held σ) le))))),
+      ),
+    )))
+
 -- the state after: the span did not grow, z is as it was
 abbrev pub Kept : Text → State → State → Type 0
 Kept z σ τ = (held τ ≤ held σ) × (τ .vars z ≡ σ .vars z)
 
 -- what is cut off the front, behind its check
-pub cut-run : (x : Text) (e : Expr) → Apart x span → Sizeless e → (z : Text) (Q : Post) (σ : State) (n : ℕ) → eval excusing σ e ≡ num (pos n) → n ≤ held σ
-    → ((τ : State) → Kept z σ τ → Q τ) → wpLines (Line.front Before.old x span e ∷ Line.skip span e ∷ []) Q σ
-cut-run x e ne se z Q σ n ev le k =
+pub cut-run : (x : Text) (e : Expr) → Apart x span → Sizeless e → (z : Text) (Q : Post) (σ : State) (n : ℕ) → ComesTo σ (eval excusing σ e) n
+    → n ≤ held σ → ((τ : State) → Kept z σ τ → Q τ) → wpLines (Line.front Before.old x span e ∷ Line.skip span e ∷ []) Q σ
+cut-run x e ne se z Q σ n c le k =
     let s : List ℕ = take n (σ .spans span) in
     let other : put (σ .spans) x s span ≡ σ .spans span = put-other (σ .spans) x s span ne in
     of-in σ _ e (sizeless-operands e se σ)
-    (known (eval excusing σ e) n _ ev (
+    (come σ (eval excusing σ e) n _ c (
       omega arith,
       of-in (putSpan σ x s) _ e (sizeless-operands e se (putSpan σ x s))
-          (known (eval excusing (putSpan σ x s) e) n _ (eval-spans e se σ x s ∙ ev)
+          (come (putSpan σ x s) (eval excusing (putSpan σ x s) e) n _
+          (come-again σ (putSpan σ x s) (eval excusing σ e) _ n (ap length other) (eval-spans e se σ x s) c)
           (omega (arith, ap length other), k _ (omega (arith, ap length other, length-drop n (put (σ .spans) x s span)), refl))),
     ))
 
@@ -235,7 +279,8 @@ module _ (z : Text) (nz : Apart raw z) (k : ℕ) (l : List Stmt) (σ : State) (r
     each-up E f g ev h =
         down k (Stmt.count e (parseArrayElement span E f g) ∷ l) σ
         (count-up e (parseArrayElement span E f g) l (Ahead (reads E)) (Kept z σ)
-        (λ τ i. of-in τ _ e (steady-operands e st τ) (known (eval excusing τ e) N _ (i .1) (λ m. more τ (i .0) (i .1) (i .2) (i .3) (i .4) m, λ m. i .4))) k rest σ
+        (λ τ i. of-in τ _ e (steady-operands e st τ) (known τ (eval excusing τ e) N _ (i .1) (λ m. more τ (i .0) (i .1) (i .2) (i .3) (i .4) m, λ m. i .4)))
+        k rest σ
         (N, steady e st σ (putTurns σ 0) (λ c a. refl) ∙ ev, omega arith, h, (omega arith, refl)))
       where
         more : (τ : State) (r : ℕ) → eval excusing τ e ≡ num (pos N) → N ≡ τ .turns + r → r * reads E ≤ held τ → Kept z σ τ → τ .turns < N
@@ -266,15 +311,14 @@ module _ (k : ℕ) (l : List Stmt) (σ : State) (rest : (τ : State) → Still �
   parts-up d ev h =
       down k (Stmt.count e partLines ∷ l) σ
       (count-up e partLines l Apace (Still σ)
-      (λ τ i. of-in τ _ e (d τ) (known (eval excusing τ e) N _ (ev τ (i .2 .0)) (λ m. more τ (i .0) (i .1) (i .2) m, λ m. i .2))) k rest σ
+      (λ τ i. of-in τ _ e (d τ) (known τ (eval excusing τ e) N _ (ev τ (i .2 .0)) (λ m. more τ (i .0) (i .1) (i .2) m, λ m. i .2))) k rest σ
       (N, omega arith, (refl, refl)))
     where
       more : (τ : State) (r : ℕ) → N ≡ τ .turns + r → Still σ τ → τ .turns < N → wpLines partLines (λ υ. Apace (putTurns υ (υ .turns + 1))) τ
       more τ zero eq s m = absurd (omega arith)
       more τ (suc r) eq s m = (
         (tt, tt, tt, tt),
-        product-num (τ .turns * τ .vars es) _ (
-          fits (τ .turns) r (τ .vars es) (held τ) eq (rw (s .0, s .1) h),
-          λ a n u. (tt, (r, omega arith, s)),
-        ),
+        let p : ℕ = τ .turns * τ .vars es in
+            let le : p + τ .vars es ≤ held τ = fits (τ .turns) r (τ .vars es) (held τ) eq (rw (s .0, s .1) h) in
+            come τ (limited (over Cause.byProduct) (pos p)) p _ (product-num τ p (omega arith)) (le, λ a n u. (tt, (r, omega arith, s))),
       )

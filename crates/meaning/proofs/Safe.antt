@@ -53,7 +53,7 @@ module _ (k : ℕ) (l : List Stmt) (s : Safe l) (σ : State) where
       (by-check (eval excusing σ e) (held σ) _
       (λ n ev le.
       lines-up k (Line.front Before.old x span e ∷ Line.skip span e ∷ []) l σ
-      (cut-run x e ne (changed-sizeless c v) x (Up k l) σ n ev le (λ τ _. up l s τ k)))))
+      (cut-run x e ne (changed-sizeless c v) x (Up k l) σ n (known σ (eval excusing σ e) n _ ev refl) le (λ τ _. up l s τ k)))))
 
   upTo-up : (x : Text) (t : ℕ) → Apart x span → Up k (blockLines (Block.payloadUpTo x t) l) σ
   upTo-up x t ne =
@@ -70,7 +70,7 @@ module _ (k : ℕ) (l : List Stmt) (s : Safe l) (σ : State) where
             let other : put (σ .spans) o p span ≡ σ .spans span = put-other (σ .spans) o p span (own-span id) in
             line k (Line.front Before.slice o span (allBut t)) _ σ (
               (tt, tt, tt, tt),
-              known (num (pos (held σ) -ℤ pos t)) (held σ - t) _ (minus-num (held σ) t le) (
+              known σ (num (pos (held σ) -ℤ pos t)) (held σ - t) _ (minus-num (held σ) t le) (
                 omega arith,
                 line k (Line.must (Test.notParsed T o x)) _ _
                     (λ a n u. (

@@ -3,13 +3,14 @@
 use mathlib.Core.List.{List}
 use Prim.Native.Nat.{ℕ}
 use Rattle.definitions.specs.Bytes.{Text, text}
-use Rattle.definitions.specs.Lines.{Dest, Out, Stmt}
-use Rattle.definitions.specs.Blocks.{span, raw, elementSpan, Elem, parseArrayElement, named, bare, Array, parseArrayFieldLite, parseArrayFieldFull, byMode, fieldLines}
+use Rattle.definitions.specs.Lines.{Expr, Dest, Out, Stmt}
+use Rattle.definitions.specs.Blocks.{span, raw, elementSpan, checkProduct, Elem, parseArrayElement, named, bare, Array, parseArrayFieldLite, parseArrayFieldFull, byMode, fieldLines}
 use Rattle.definitions.specs.declared.Arrays.{Arrays}
 use Rattle.definitions.specs.declared.Modifier.{Modifier}
 use Rattle.definitions.specs.declared.ElementSize.{ElementSize}
 use Rattle.definitions.specs.declared.ArraySize.{ArraySize}
-use Rattle.meaning.proofs.Steps.{Holder, aSpan, aVariable, LinesSet, AllSet}
+use Rattle.definitions.specs.declared.Products.{Products}
+use Rattle.meaning.proofs.Steps.{Holder, aSpan, aVariable, lineSets, Each, LinesSet, AllSet}
 
 -- N has all that the lines of the array `id` set
 pub record HasArray (N : Holder → Type 0) (id : Text) : Type 0 where
@@ -27,14 +28,18 @@ module _ (N : Holder → Type 0) (id : Text) (has : HasArray N id) where
   element-set s (Elem.closedEnum T order w) d o = ((has .rawValue, tt), (tt, (tt, tt)))
   element-set s (Elem.parsed T) d o = (tt, (tt, (tt, tt)))
 
-  module _ (T : Text) (E : Elem) (l : List Stmt) (h : AllSet N l) where
-    lite-set : (e : ElementSize) (n : ArraySize) → AllSet N (parseArrayFieldLite id T E l e n)
+  product-set : (o : Products) (a b : Expr) → Each N (lineSets (checkProduct o a b))
+  product-set Products.Plain a b = tt
+  product-set Products.Divide a b = tt
+
+  module _ (o : Products) (T : Text) (E : Elem) (l : List Stmt) (h : AllSet N l) where
+    lite-set : (e : ElementSize) (n : ArraySize) → AllSet N (parseArrayFieldLite o id T E l e n)
     lite-set (ElementSize.Static z) (ArraySize.StaticCount n) = (tt, ((has .whole, tt), (tt, h)))
-    lite-set (ElementSize.Static z) ArraySize.DynamicCount = (tt, ((has .whole, tt), (tt, h)))
+    lite-set (ElementSize.Static z) ArraySize.DynamicCount = (product-set o _ _, ((has .whole, tt), (tt, h)))
     lite-set (ElementSize.Static z) ArraySize.DynamicSize = (tt, (tt, ((has .whole, tt), (tt, h))))
     lite-set (ElementSize.Static z) ArraySize.Unknown = (tt, ((has .whole, tt), (tt, h)))
-    lite-set ElementSize.Dynamic (ArraySize.StaticCount n) = (tt, (tt, ((has .whole, tt), (tt, h))))
-    lite-set ElementSize.Dynamic ArraySize.DynamicCount = (tt, (tt, ((has .whole, tt), (tt, h))))
+    lite-set ElementSize.Dynamic (ArraySize.StaticCount n) = (tt, (product-set o _ _, ((has .whole, tt), (tt, h))))
+    lite-set ElementSize.Dynamic ArraySize.DynamicCount = (tt, (product-set o _ _, ((has .whole, tt), (tt, h))))
     lite-set ElementSize.Dynamic ArraySize.DynamicSize = (tt, (tt, ((has .whole, tt), (tt, h))))
     lite-set ElementSize.Dynamic ArraySize.Unknown = (tt, ((has .whole, tt), (tt, h)))
     lite-set ElementSize.Unknown (ArraySize.StaticCount n) = ((has .whole, tt), ((tt, (tt, tt)), ((has .whole, tt), h)))
@@ -42,13 +47,13 @@ module _ (N : Holder → Type 0) (id : Text) (has : HasArray N id) where
     lite-set ElementSize.Unknown ArraySize.DynamicSize = (tt, ((has .whole, tt), (tt, h)))
     lite-set ElementSize.Unknown ArraySize.Unknown = ((has .whole, tt), ((tt, (tt, tt)), ((has .whole, tt), h)))
 
-    full-set : (e : ElementSize) (n : ArraySize) → AllSet N (parseArrayFieldFull id T E l e n)
+    full-set : (e : ElementSize) (n : ArraySize) → AllSet N (parseArrayFieldFull o id T E l e n)
     full-set (ElementSize.Static z) (ArraySize.StaticCount n) = (tt, (element-set span E _ Out.out, h))
-    full-set (ElementSize.Static z) ArraySize.DynamicCount = (tt, (element-set span E _ Out.out, h))
+    full-set (ElementSize.Static z) ArraySize.DynamicCount = (product-set o _ _, (element-set span E _ Out.out, h))
     full-set (ElementSize.Static z) ArraySize.DynamicSize = (tt, (tt, ((has .count, tt), (element-set span E _ Out.out, h))))
     full-set (ElementSize.Static z) ArraySize.Unknown = (tt, ((has .count, tt), (element-set span E _ Out.out, h)))
-    full-set ElementSize.Dynamic (ArraySize.StaticCount n) = (tt, (((has .element, tt), (tt, (tt, (tt, tt)))), (tt, h)))
-    full-set ElementSize.Dynamic ArraySize.DynamicCount = (tt, (((has .element, tt), (tt, (tt, (tt, tt)))), (tt, h)))
+    full-set ElementSize.Dynamic (ArraySize.StaticCount n) = (product-set o _ _, (((has .element, tt), (tt, (tt, (tt, tt)))), (tt, h)))
+    full-set ElementSize.Dynamic ArraySize.DynamicCount = (product-set o _ _, (((has .element, tt), (tt, (tt, (tt, tt)))), (tt, h)))
     full-set ElementSize.Dynamic ArraySize.DynamicSize = (tt, (tt, ((has .count, tt), (((has .element, tt), (tt, (tt, (tt, tt)))), (tt, h)))))
     full-set ElementSize.Dynamic ArraySize.Unknown = (tt, ((has .count, tt), (((has .element, tt), (tt, (tt, (tt, tt)))), (tt, h))))
     full-set ElementSize.Unknown (ArraySize.StaticCount n) = ((tt, (tt, (tt, tt))), h)
@@ -56,13 +61,14 @@ module _ (N : Holder → Type 0) (id : Text) (has : HasArray N id) where
     full-set ElementSize.Unknown ArraySize.DynamicSize = (tt, ((has .own, tt), ((tt, (tt, (tt, tt))), (tt, h))))
     full-set ElementSize.Unknown ArraySize.Unknown = ((tt, (tt, (tt, tt))), h)
 
-  array-set : (m : Arrays) (T : Text) (E : Elem) (l : List Stmt) (e : ElementSize) (n : ArraySize) → AllSet N l → AllSet N (byMode m id T E l e n)
-  array-set Arrays.Lite T E l e n h = lite-set T E l h e n
-  array-set Arrays.Full T E l e n h = full-set T E l h e n
+  array-set : (m : Arrays) (o : Products) (T : Text) (E : Elem) (l : List Stmt) (e : ElementSize) (n : ArraySize) → AllSet N l
+      → AllSet N (byMode m o id T E l e n)
+  array-set Arrays.Lite o T E l e n h = lite-set o T E l h e n
+  array-set Arrays.Full o T E l e n h = full-set o T E l h e n
 
 pub field-set : (N : Holder → Type 0) (m : Modifier) (w : ℕ) (a : Array) (l : List Stmt) → HasArray N (a .id) → AllSet N l → AllSet N (fieldLines m w a l)
-field-set N Modifier.None w a l has h = array-set N (a .id) has (a .mode) (a .type) (a .elem) l (a .elementSize) (a .arraySize) h
+field-set N Modifier.None w a l has h = array-set N (a .id) has (a .mode) (a .products) (a .type) (a .elem) l (a .elementSize) (a .arraySize) h
 field-set N (Modifier.Plus n) w a l has h =
-    ((has .size (a .mode), tt), array-set N (a .id) has (a .mode) (a .type) (a .elem) l (a .elementSize) (a .arraySize) h)
+    ((has .size (a .mode), tt), array-set N (a .id) has (a .mode) (a .products) (a .type) (a .elem) l (a .elementSize) (a .arraySize) h)
 field-set N (Modifier.Minus n) w a l has h =
-    ((has .size (a .mode), tt), array-set N (a .id) has (a .mode) (a .type) (a .elem) l (a .elementSize) (a .arraySize) h)
+    ((has .size (a .mode), tt), array-set N (a .id) has (a .mode) (a .products) (a .type) (a .elem) l (a .elementSize) (a .arraySize) h)

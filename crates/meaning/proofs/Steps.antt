@@ -162,6 +162,11 @@ module _ (N : Holder → Type 0) (P : State → Type 0) (keeps : Closed N P) (l 
   on-test σ (Test.raggedOrZero a b) t e p h k =
       on-num (eval excusing σ b) _
       (λ y. on-pick (eqZ y (pos 0)) _ _ (h σ p) (on-num (eval excusing σ (Expr.rem a b)) _ (λ r. on-pick (eqZ r (pos 0)) _ _ (k σ p) (h σ p))))
+  on-test σ (Test.divided a b c) t e p h k =
+      on-num (eval excusing σ b) _
+      (λ y.
+      on-pick (eqZ y (pos 0)) _ _ (k σ p)
+      (on-num (eval excusing σ (Expr.div a b)) _ (λ q. on-num (eval excusing σ c) _ (λ z. on-pick (less (Expr.div a b) q z) _ _ (h σ p) (k σ p)))))
   on-test σ (Test.more s) t e p h k = on-pick (ltb 0 (length (σ .spans s))) _ _ (h σ p) (k σ p)
   on-test σ (Test.notParsed type s x) t e p h k =
       on-asked (σ .replies) σ _

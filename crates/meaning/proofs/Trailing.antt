@@ -57,11 +57,11 @@ module _ (x : Text) (ne : Apart x span) where
         let m : ℕ = held σ - n in
         let stays : put (σ .spans) x (take m (σ .spans span)) span ≡ σ .spans span = span-stays σ m in (
           (tt, tt, tt, tt),
-          known (num (pos (held σ) -ℤ pos n)) m _ (minus-num (held σ) n le) (
+          known σ (num (pos (held σ) -ℤ pos n)) m _ (minus-num (held σ) n le) (
             omega arith,
             (
               (tt, tt, tt, tt),
-              known (num (pos (length (put (σ .spans) x (take m (σ .spans span)) span)) -ℤ pos n)) m _
+              known _ (num (pos (length (put (σ .spans) x (take m (σ .spans span)) span)) -ℤ pos n)) m _
                   (ap (λ (q : List ℕ). num (pos (length q) -ℤ pos n)) stays ∙ minus-num (held σ) n le)
                   (omega (arith, ap length stays), cut-splits σ m n (omega arith)),
             ),
@@ -90,7 +90,7 @@ padding-fills z p σ h =
     let g : eval excusing σ (gone z) ≡ num (pos (σ .vars z - held σ)) = minus-num (σ .vars z) (held σ) h in
     let value : eval excusing σ (missing z p) ≡ num (pos p -ℤ pos (σ .vars z - held σ)) = ap (λ (v : Num). bind v (λ y. num (pos p -ℤ y))) g in (
       (tt, tt, tt, tt),
-      known (eval excusing σ (gone z)) (σ .vars z - held σ) _ g (
+      known σ (eval excusing σ (gone z)) (σ .vars z - held σ) _ g (
         λ m. (
           (tt, (tt, tt, tt, tt), tt, natural-is _ _ g),
           by-check (eval excusing σ (missing z p)) (held σ) _
@@ -98,7 +98,7 @@ padding-fills z p σ h =
               let same : num (pos n) ≡ num (pos (p - (σ .vars z - held σ))) = sym ev ∙ value ∙ minus-num p (σ .vars z - held σ) (omega arith) in
               let size : n ≡ p - (σ .vars z - held σ) = cc in (
                 (tt, (tt, tt, tt, tt), tt, natural-is _ _ g),
-                known (eval excusing σ (missing z p)) n _ ev (le, omega (arith, size, length-drop n (σ .spans span))),
+                known σ (eval excusing σ (missing z p)) n _ ev (le, omega (arith, size, length-drop n (σ .spans span))),
               )),
         ),
         λ m. omega arith,

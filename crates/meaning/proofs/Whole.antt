@@ -12,6 +12,7 @@ use Rattle.definitions.specs.declared.Arrays.{Arrays}
 use Rattle.definitions.specs.declared.Modifier.{Modifier}
 use Rattle.definitions.specs.declared.ElementSize.{ElementSize}
 use Rattle.definitions.specs.declared.ArraySize.{ArraySize}
+use Rattle.definitions.specs.declared.Products.{Products}
 use Rattle.meaning.specs.Machine.{Inside, Reply, State, start, running, run}
 use Rattle.meaning.proofs.Wellformed.{BlockOk, BlocksOk}
 use Rattle.meaning.specs.Rule.{Octets}
@@ -23,42 +24,43 @@ abbrev Ahead : List Stmt → List Stmt → Type 0
 Ahead l all = (a : List Stmt) × (all ≡ a ++ l)
 
 -- the lines of an array stand before those that follow
-lite-before : (id type : Text) (elem : Elem) (l : List Stmt) (e : ElementSize) (n : ArraySize)
-    → parseArrayFieldLite id type elem l e n ≡ parseArrayFieldLite id type elem [] e n ++ l
-lite-before id type elem l (ElementSize.Static z) (ArraySize.StaticCount n) = refl
-lite-before id type elem l (ElementSize.Static z) ArraySize.DynamicCount = refl
-lite-before id type elem l (ElementSize.Static z) ArraySize.DynamicSize = refl
-lite-before id type elem l (ElementSize.Static z) ArraySize.Unknown = refl
-lite-before id type elem l ElementSize.Dynamic (ArraySize.StaticCount n) = refl
-lite-before id type elem l ElementSize.Dynamic ArraySize.DynamicCount = refl
-lite-before id type elem l ElementSize.Dynamic ArraySize.DynamicSize = refl
-lite-before id type elem l ElementSize.Dynamic ArraySize.Unknown = refl
-lite-before id type elem l ElementSize.Unknown (ArraySize.StaticCount n) = refl
-lite-before id type elem l ElementSize.Unknown ArraySize.DynamicCount = refl
-lite-before id type elem l ElementSize.Unknown ArraySize.DynamicSize = refl
-lite-before id type elem l ElementSize.Unknown ArraySize.Unknown = refl
+lite-before : (o : Products) (id type : Text) (elem : Elem) (l : List Stmt) (e : ElementSize) (n : ArraySize)
+    → parseArrayFieldLite o id type elem l e n ≡ parseArrayFieldLite o id type elem [] e n ++ l
+lite-before o id type elem l (ElementSize.Static z) (ArraySize.StaticCount n) = refl
+lite-before o id type elem l (ElementSize.Static z) ArraySize.DynamicCount = refl
+lite-before o id type elem l (ElementSize.Static z) ArraySize.DynamicSize = refl
+lite-before o id type elem l (ElementSize.Static z) ArraySize.Unknown = refl
+lite-before o id type elem l ElementSize.Dynamic (ArraySize.StaticCount n) = refl
+lite-before o id type elem l ElementSize.Dynamic ArraySize.DynamicCount = refl
+lite-before o id type elem l ElementSize.Dynamic ArraySize.DynamicSize = refl
+lite-before o id type elem l ElementSize.Dynamic ArraySize.Unknown = refl
+lite-before o id type elem l ElementSize.Unknown (ArraySize.StaticCount n) = refl
+lite-before o id type elem l ElementSize.Unknown ArraySize.DynamicCount = refl
+lite-before o id type elem l ElementSize.Unknown ArraySize.DynamicSize = refl
+lite-before o id type elem l ElementSize.Unknown ArraySize.Unknown = refl
 
-full-before : (id type : Text) (elem : Elem) (l : List Stmt) (e : ElementSize) (n : ArraySize)
-    → parseArrayFieldFull id type elem l e n ≡ parseArrayFieldFull id type elem [] e n ++ l
-full-before id type elem l (ElementSize.Static z) (ArraySize.StaticCount n) = refl
-full-before id type elem l (ElementSize.Static z) ArraySize.DynamicCount = refl
-full-before id type elem l (ElementSize.Static z) ArraySize.DynamicSize = refl
-full-before id type elem l (ElementSize.Static z) ArraySize.Unknown = refl
-full-before id type elem l ElementSize.Dynamic (ArraySize.StaticCount n) = refl
-full-before id type elem l ElementSize.Dynamic ArraySize.DynamicCount = refl
-full-before id type elem l ElementSize.Dynamic ArraySize.DynamicSize = refl
-full-before id type elem l ElementSize.Dynamic ArraySize.Unknown = refl
-full-before id type elem l ElementSize.Unknown (ArraySize.StaticCount n) = refl
-full-before id type elem l ElementSize.Unknown ArraySize.DynamicCount = refl
-full-before id type elem l ElementSize.Unknown ArraySize.DynamicSize = refl
-full-before id type elem l ElementSize.Unknown ArraySize.Unknown = refl
+full-before : (o : Products) (id type : Text) (elem : Elem) (l : List Stmt) (e : ElementSize) (n : ArraySize)
+    → parseArrayFieldFull o id type elem l e n ≡ parseArrayFieldFull o id type elem [] e n ++ l
+full-before o id type elem l (ElementSize.Static z) (ArraySize.StaticCount n) = refl
+full-before o id type elem l (ElementSize.Static z) ArraySize.DynamicCount = refl
+full-before o id type elem l (ElementSize.Static z) ArraySize.DynamicSize = refl
+full-before o id type elem l (ElementSize.Static z) ArraySize.Unknown = refl
+full-before o id type elem l ElementSize.Dynamic (ArraySize.StaticCount n) = refl
+full-before o id type elem l ElementSize.Dynamic ArraySize.DynamicCount = refl
+full-before o id type elem l ElementSize.Dynamic ArraySize.DynamicSize = refl
+full-before o id type elem l ElementSize.Dynamic ArraySize.Unknown = refl
+full-before o id type elem l ElementSize.Unknown (ArraySize.StaticCount n) = refl
+full-before o id type elem l ElementSize.Unknown ArraySize.DynamicCount = refl
+full-before o id type elem l ElementSize.Unknown ArraySize.DynamicSize = refl
+full-before o id type elem l ElementSize.Unknown ArraySize.Unknown = refl
 
-array-before : (m : Arrays) (id T : Text) (E : Elem) (l : List Stmt) (e : ElementSize) (n : ArraySize) → byMode m id T E l e n ≡ byMode m id T E [] e n ++ l
-array-before Arrays.Lite id T E l e n = lite-before id T E l e n
-array-before Arrays.Full id T E l e n = full-before id T E l e n
+array-before : (m : Arrays) (o : Products) (id T : Text) (E : Elem) (l : List Stmt) (e : ElementSize) (n : ArraySize)
+    → byMode m o id T E l e n ≡ byMode m o id T E [] e n ++ l
+array-before Arrays.Lite o id T E l e n = lite-before o id T E l e n
+array-before Arrays.Full o id T E l e n = full-before o id T E l e n
 
 pub field-before : (m : Modifier) (w : ℕ) (a : Array) (l : List Stmt) → fieldLines m w a l ≡ fieldLines m w a [] ++ l
-field-before m w a l = by m (array-before (a .mode) (a .id) (a .type) (a .elem) l (a .elementSize) (a .arraySize))
+field-before m w a l = by m (array-before (a .mode) (a .products) (a .id) (a .type) (a .elem) l (a .elementSize) (a .arraySize))
   where
     by : (c : Modifier) → arrayLines a l ≡ arrayLines a [] ++ l → fieldLines c w a l ≡ fieldLines c w a [] ++ l
     by Modifier.None e = e

@@ -16,7 +16,7 @@ use Rattle.definitions.specs.Lines.{Expr, Src, Test, Line, Stmt}
 use Rattle.lengths.proofs.Booleans.{impossible}
 use Rattle.meaning.specs.Machine.{Reply, State, putSpan, advance, putVar, putTurns, putReplies, Num, num, over, eval, less, isSize, minusModulo, plusModulo, valueOf, Standing, running, ended, returned, waiting, excused, beyond, fetch, asked, onNum, test, kept, exec, loopHead, step, onward, run, excusing}
 use Rattle.definitions.specs.Blocks.{span, body}
-use Rattle.meaning.specs.Plain.{Natural, Operands, PlainExpr, Then, PlainTest, PlainLine, PlainStmt, PlainNext}
+use Rattle.meaning.specs.Plain.{Natural, Operands, Covered, PlainExpr, Then, PlainTest, PlainLine, PlainStmt, PlainNext}
 
 -- not beyond the end, and the line that comes next is plain
 abbrev pub Fine : Standing → Type 0
@@ -36,10 +36,11 @@ Post = State → Type 0
 
 -- ---- what each part asks
 
-abbrev pub wpNum : Num → (ℕ → Type 0) → Type 0
-wpNum (num (pos n)) K = K n
-wpNum (num (negsuc n)) K = ⊥
-wpNum (over why) K = Unit {0}
+-- a number that a line uses is not below zero, and a product past 2^31 − 1 only where the span is as long
+abbrev pub wpNum : State → Num → (ℕ → Type 0) → Type 0
+wpNum σ (num (pos n)) K = K n
+wpNum σ (num (negsuc n)) K = ⊥
+wpNum σ (over why) K = Covered σ (over why)
 
 abbrev pub wpAgainst : Num → Type 0 → (ℕ → Type 0) → Type 0
 wpAgainst (num (pos n)) A K = K n
@@ -52,12 +53,12 @@ wpOf σ (Expr.lit n) K = K n
 wpOf σ (Expr.var x) K = K (σ .vars x)
 wpOf σ (Expr.size s) K = K (length (σ .spans s))
 wpOf σ Expr.turn K = K (σ .turns)
-wpOf σ (Expr.bracket a) K = Operands σ a × wpNum (eval excusing σ a) K
-wpOf σ (Expr.add a b) K = Operands σ (Expr.add a b) × wpNum (eval excusing σ (Expr.add a b)) K
-wpOf σ (Expr.mul a b) K = Operands σ (Expr.mul a b) × wpNum (eval excusing σ (Expr.mul a b)) K
-wpOf σ (Expr.sub a b) K = Operands σ (Expr.sub a b) × wpNum (eval excusing σ (Expr.sub a b)) K
-wpOf σ (Expr.div a b) K = Operands σ (Expr.div a b) × wpNum (eval excusing σ (Expr.div a b)) K
-wpOf σ (Expr.rem a b) K = Operands σ (Expr.rem a b) × wpNum (eval excusing σ (Expr.rem a b)) K
+wpOf σ (Expr.bracket a) K = Operands σ a × wpNum σ (eval excusing σ a) K
+wpOf σ (Expr.add a b) K = Operands σ (Expr.add a b) × wpNum σ (eval excusing σ (Expr.add a b)) K
+wpOf σ (Expr.mul a b) K = Operands σ (Expr.mul a b) × wpNum σ (eval excusing σ (Expr.mul a b)) K
+wpOf σ (Expr.sub a b) K = Operands σ (Expr.sub a b) × wpNum σ (eval excusing σ (Expr.sub a b)) K
+wpOf σ (Expr.div a b) K = Operands σ (Expr.div a b) × wpNum σ (eval excusing σ (Expr.div a b)) K
+wpOf σ (Expr.rem a b) K = Operands σ (Expr.rem a b) × wpNum σ (eval excusing σ (Expr.rem a b)) K
 
 -- on the right of a `<`
 abbrev pub wpRight : State → Expr → Type 0 → (ℕ → Type 0) → Type 0
@@ -92,6 +93,9 @@ wpTest σ (Test.ragged a b) P Q = wpOf σ (Expr.rem a b) (λ r. (r ≡ 0 → Q �
 wpTest σ (Test.equal a b) P Q = wpOf σ a (λ x. wpOf σ b (λ y. P σ × Q σ))
 wpTest σ (Test.raggedOrZero a b) P Q =
     wpOf σ b (λ y. (y ≡ 0 → P σ) × ((y ≡ 0 → ⊥) → wpOf σ (Expr.rem a b) (λ r. (r ≡ 0 → Q σ) × P σ)))
+wpTest σ (Test.divided a b c) P Q =
+    wpOf σ b
+    (λ y. (y ≡ 0 → Q σ) × ((y ≡ 0 → ⊥) → wpOf σ (Expr.div a b) (λ q. wpOf σ c (λ z. (q < z → P σ) × (z ≤ q → Q σ)))))
 wpTest σ (Test.more s) P Q = P σ × Q σ
 wpTest σ (Test.notParsed T s x) P Q = wpParse σ s (λ τ. P τ × Q τ)
 wpTest σ (Test.notValid T x) P Q = wpAsk σ (λ τ. P τ × Q τ)
@@ -148,10 +152,10 @@ on-fine beyond f h = h
 
 -- ---- what is asked may be weakened
 
-num-map : (v : Num) (K L : ℕ → Type 0) → ((n : ℕ) → K n → L n) → wpNum v K → wpNum v L
-num-map (num (pos n)) K L m h = m n h
-num-map (num (negsuc n)) K L m h = h
-num-map (over why) K L m h = tt
+pub num-map : (σ : State) (v : Num) (K L : ℕ → Type 0) → ((n : ℕ) → K n → L n) → wpNum σ v K → wpNum σ v L
+num-map σ (num (pos n)) K L m h = m n h
+num-map σ (num (negsuc n)) K L m h = h
+num-map σ (over why) K L m h = h
 
 against-map : (v : Num) (A B : Type 0) (K L : ℕ → Type 0) → (A → B) → ((n : ℕ) → K n → L n) → wpAgainst v A K → wpAgainst v B L
 against-map (num (pos n)) A B K L a m h = m n h
@@ -160,7 +164,7 @@ against-map (over why) A B K L a m h = tt
 
 -- what is asked of an expression, whatever its form
 module _ (σ : State) (K : ℕ → Type 0) where
-  pub of-in : (e : Expr) → Operands σ e → wpNum (eval excusing σ e) K → wpOf σ e K
+  pub of-in : (e : Expr) → Operands σ e → wpNum σ (eval excusing σ e) K → wpOf σ e K
   of-in (Expr.lit n) d h = h
   of-in (Expr.var x) d h = h
   of-in (Expr.size s) d h = h
@@ -172,7 +176,7 @@ module _ (σ : State) (K : ℕ → Type 0) where
   of-in (Expr.div a b) d h = (d, h)
   of-in (Expr.rem a b) d h = (d, h)
 
-  of-out : (e : Expr) → wpOf σ e K → Operands σ e × wpNum (eval excusing σ e) K
+  of-out : (e : Expr) → wpOf σ e K → Operands σ e × wpNum σ (eval excusing σ e) K
   of-out (Expr.lit n) h = (tt, h)
   of-out (Expr.var x) h = (tt, h)
   of-out (Expr.size s) h = (tt, h)
@@ -212,7 +216,7 @@ module _ (σ : State) (K : ℕ → Type 0) where
 of-map : (σ : State) (e : Expr) (K L : ℕ → Type 0) → ((n : ℕ) → K n → L n) → wpOf σ e K → wpOf σ e L
 of-map σ e K L m h =
     let o = of-out σ K e h in
-    of-in σ L e (o .0) (num-map (eval excusing σ e) K L m (o .1))
+    of-in σ L e (o .0) (num-map σ (eval excusing σ e) K L m (o .1))
 
 right-map : (σ : State) (e : Expr) (A B : Type 0) (K L : ℕ → Type 0) → (A → B) → ((n : ℕ) → K n → L n) → wpRight σ e A K → wpRight σ e B L
 right-map σ e A B K L a m h =
@@ -239,6 +243,12 @@ module _ (P P′ Q Q′ : Post) (p : (τ : State) → P τ → P′ τ) (q : (τ
       of-map σ b _ _
       (λ y k.
       (λ u. p σ (k .0 u), λ u. of-map σ (Expr.rem a b) _ _ (λ r m. (λ v. q σ (m .0 v), p σ (m .1))) (k .1 u))) h
+  test-map σ (Test.divided a b c) h =
+      of-map σ b _ _
+      (λ y k. (
+        λ u. q σ (k .0 u),
+        λ u. of-map σ (Expr.div a b) _ _ (λ d m. of-map σ c _ _ (λ z n. (λ v. p σ (n .0 v), λ v. q σ (n .1 v))) m) (k .1 u),
+      )) h
   test-map σ (Test.more s) h = (p σ (h .0), q σ (h .1))
   test-map σ (Test.notParsed T s x) h = λ l n u. (p _ (h l n u .0), q _ (h l n u .1))
   test-map σ (Test.notValid T x) h = λ l. (p _ (h l .0), q _ (h l .1))
@@ -285,13 +295,13 @@ module _ (K : State → List Stmt → Type 0) where
   on-less : (x y : ℕ) (t f : Standing) → (x < y → On t K) → (y ≤ x → On f K) → On (pick (ltb x y) t f) K
   on-less x y t f a b = on-pick (ltb x y) t f (λ e. a (ltb-true x y e)) (λ e. b (ltb-false x y e))
 
-  on-num : (v : Num) (f : ℤ → Standing) → wpNum v (λ n. On (f (pos n)) K) → On (onNum v f) K
-  on-num (num (pos n)) f h = h
-  on-num (num (negsuc n)) f h = absurd h
-  on-num (over why) f h = tt
+  on-num : (σ : State) (v : Num) (f : ℤ → Standing) → wpNum σ v (λ n. On (f (pos n)) K) → On (onNum v f) K
+  on-num σ (num (pos n)) f h = h
+  on-num σ (num (negsuc n)) f h = absurd h
+  on-num σ (over why) f h = tt
 
   on-of : (σ : State) (e : Expr) (f : ℤ → Standing) → wpOf σ e (λ n. On (f (pos n)) K) → On (onNum (eval excusing σ e) f) K
-  on-of σ e f h = on-num (eval excusing σ e) f (of-out σ _ e h .1)
+  on-of σ e f h = on-num σ (eval excusing σ e) f (of-out σ _ e h .1)
 
   on-either : (b c : Bool) (t f : Standing) → c ≡ false → pick b (On t K) (On f K) → On (pick (pick b true c) t f) K
   on-either true c t f e h = h
@@ -337,6 +347,14 @@ module _ (K : State → List Stmt → Type 0) where
       on-equal y 0 _ _ (k .0)
       (λ ne.
       on-of σ (Expr.rem a b) _ (of-map σ (Expr.rem a b) _ _ (λ r m. on-equal r 0 _ _ (m .0) (λ _. m .1)) (k .1 ne)))) h)
+  on-test σ (Test.divided a b c) t f h =
+      on-of σ b _
+      (of-map σ b _ _
+      (λ y k.
+      on-equal y 0 _ _ (k .0)
+      (λ ne.
+      on-of σ (Expr.div a b) _
+      (of-map σ (Expr.div a b) _ _ (λ q m. on-of σ c _ (of-map σ c _ _ (λ z n. on-less q z _ _ (n .0) (n .1)) m)) (k .1 ne)))) h)
   on-test σ (Test.more s) t f h = on-less 0 (length (σ .spans s)) _ _ (λ _. h .0) (λ _. h .1)
   on-test σ (Test.notParsed T s x) t f h =
       on-asked σ (σ .replies) _
@@ -390,20 +408,21 @@ module _ (K : State → List Stmt → Type 0) where
 
 -- ---- what is asked has the line plain
 
-num-natural : (v : Num) (K : ℕ → Type 0) → wpNum v K → Natural v
-num-natural (num (pos n)) K h = tt
-num-natural (num (negsuc n)) K h = h
-num-natural (over why) K h = tt
+num-plain : (σ : State) (v : Num) (K : ℕ → Type 0) → wpNum σ v K → Natural v × Covered σ v
+num-plain σ (num (pos n)) K h = (tt, tt)
+num-plain σ (num (negsuc n)) K h = absurd h
+num-plain σ (over why) K h = (tt, h)
 
 of-plain : (σ : State) (e : Expr) (K : ℕ → Type 0) → wpOf σ e K → PlainExpr σ e
 of-plain σ e K h =
     let o = of-out σ K e h in
-    (o .0, num-natural (eval excusing σ e) K (o .1))
+    let p = num-plain σ (eval excusing σ e) K (o .1) in
+    (o .0, p .0, p .1)
 
 of-then : (σ : State) (e : Expr) (K : ℕ → Type 0) (A : Type 0) → ((n : ℕ) → eval excusing σ e ≡ num (pos n) → K n → A) → wpOf σ e K → Then (eval excusing σ e) A
 of-then σ e K A f h = by (eval excusing σ e) refl (of-out σ K e h .1)
   where
-    by : (v : Num) → eval excusing σ e ≡ v → wpNum v K → Then v A
+    by : (v : Num) → eval excusing σ e ≡ v → wpNum σ v K → Then v A
     by (num (pos n)) q g = f n q g
     by (num (negsuc n)) q g = absurd g
     by (over why) q g = tt
@@ -414,6 +433,13 @@ test-plain σ (Test.ragged a b) P Q h = of-plain σ (Expr.rem a b) _ h
 test-plain σ (Test.equal a b) P Q h = (of-plain σ a _ h, of-then σ a _ _ (λ n e k. of-plain σ b _ k) h)
 test-plain σ (Test.raggedOrZero a b) P Q h =
     (of-plain σ b _ h, of-then σ b _ _ (λ n e k ne. of-plain σ (Expr.rem a b) _ (k .1 (λ z. ne (e ∙ ap (λ (i : ℕ). num (pos i)) z)))) h)
+test-plain σ (Test.divided a b c) P Q h = (
+  of-plain σ b _ h,
+  of-then σ b _ _
+      (λ n e k ne.
+      let d = k .1 (λ z. ne (e ∙ ap (λ (i : ℕ). num (pos i)) z)) in
+      (of-plain σ (Expr.div a b) _ d, of-then σ (Expr.div a b) _ _ (λ q f m. of-plain σ c _ m) d)) h,
+)
 test-plain σ (Test.more s) P Q h = tt
 test-plain σ (Test.notParsed type s x) P Q h = tt
 test-plain σ (Test.notValid type x) P Q h = tt

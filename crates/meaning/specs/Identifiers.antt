@@ -34,6 +34,7 @@ testIds (Test.less a b) = exprIds a ++ exprIds b
 testIds (Test.ragged a b) = exprIds a ++ exprIds b
 testIds (Test.equal a b) = exprIds a ++ exprIds b
 testIds (Test.raggedOrZero a b) = exprIds a ++ exprIds b
+testIds (Test.divided a b c) = exprIds a ++ (exprIds b ++ exprIds c)
 testIds (Test.more s) = s ∷ []
 testIds (Test.notParsed type s x) = type ∷ s ∷ x ∷ []
 -- the type stands behind `IsValid`

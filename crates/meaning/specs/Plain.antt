@@ -1,12 +1,15 @@
--- What the lines that are lowered never ask of the machine: a number below zero anywhere but on the right of a `<`, and a division by zero. Said of a
--- state and the line that is run next, in document 01's run.
+-- What the lines that are lowered never ask of the machine: a number below zero anywhere but on the right of a `<`, a division by zero, and, where the
+-- span has fewer than 2^31 bytes, a product past 2^31 − 1 anywhere but on the right of a `<`. Said of a state and the line that is run next, in document
+-- 01's run.
 -- Assumes nothing.
 use mathlib.Core.Path.{_≡_}
 use mathlib.Core.List.{List, [], _∷_}
-use Prim.Native.Nat.{zero, suc, _+_}
+use Prim.Native.Nat.{zero, suc, _+_, _^_, _<_}
+use lib.ListN.{length}
 use lib.IntN.{pos, negsuc}
 use Rattle.definitions.specs.Lines.{Expr, Test, Line, Stmt}
-use Rattle.meaning.specs.Machine.{State, putTurns, Num, num, over, eval, excusing}
+use Rattle.definitions.specs.Blocks.{span}
+use Rattle.meaning.specs.Machine.{Cause, State, putTurns, Num, num, over, eval, excusing}
 
 -- not below zero
 abbrev pub Natural : Num → Type 0
@@ -34,16 +37,23 @@ Operands σ (Expr.sub a b) = Operands σ a × Operands σ b × Natural (eval exc
 Operands σ (Expr.div a b) = Operands σ a × Operands σ b × Natural (eval excusing σ a) × Positive (eval excusing σ b)
 Operands σ (Expr.rem a b) = Operands σ a × Operands σ b × Natural (eval excusing σ a) × Positive (eval excusing σ b)
 
--- and the whole is not below zero
+-- a product past 2^31 − 1 only where the span is as long
+abbrev pub Covered : State → Num → Type 0
+Covered σ (num x) = Unit {0}
+Covered σ (over Cause.bySum) = Unit {0}
+Covered σ (over Cause.byProduct) = length (σ .spans span) < 2 ^ 31 → ⊥
+Covered σ (over Cause.byParser) = Unit {0}
+
+-- and the whole is not below zero, and covered
 abbrev pub PlainExpr : State → Expr → Type 0
-PlainExpr σ e = Operands σ e × Natural (eval excusing σ e)
+PlainExpr σ e = Operands σ e × Natural (eval excusing σ e) × Covered σ (eval excusing σ e)
 
 -- what is asked only where a number is there, since else the run is excused
 abbrev pub Then : Num → Type 0 → Type 0
 Then (num x) A = A
 Then (over why) A = Unit {0}
 
--- only the right of a `<` may be below zero
+-- only the right of a `<` may be below zero, or a product past 2^31 − 1
 abbrev pub PlainTest : State → Test → Type 0
 PlainTest σ (Test.less a b) = PlainExpr σ a × Then (eval excusing σ a) (Operands σ b)
 PlainTest σ (Test.ragged a b) = PlainExpr σ (Expr.rem a b)
@@ -51,6 +61,12 @@ PlainTest σ (Test.equal a b) = PlainExpr σ a × Then (eval excusing σ a) (Pla
 -- behind `||` only where b is not zero
 PlainTest σ (Test.raggedOrZero a b) =
     PlainExpr σ b × Then (eval excusing σ b) ((eval excusing σ b ≡ num (pos 0) → ⊥) → PlainExpr σ (Expr.rem a b))
+-- behind `&&` likewise; the right of this `<` is plain too
+PlainTest σ (Test.divided a b c) =
+    PlainExpr σ b
+    × Then (eval excusing σ b)
+    ((eval excusing σ b ≡ num (pos 0) → ⊥)
+    → PlainExpr σ (Expr.div a b) × Then (eval excusing σ (Expr.div a b)) (PlainExpr σ c))
 PlainTest σ (Test.more s) = Unit {0}
 PlainTest σ (Test.notParsed type s x) = Unit {0}
 PlainTest σ (Test.notValid type x) = Unit {0}

@@ -40,6 +40,7 @@ writtenTest (Test.less a b) = bracketed a && bracketed b
 writtenTest (Test.ragged a b) = bracketed (Expr.rem a b)
 writtenTest (Test.equal a b) = bracketed a && bracketed b
 writtenTest (Test.raggedOrZero a b) = bracketed b && bracketed (Expr.rem a b)
+writtenTest (Test.divided a b c) = bracketed (Expr.div a b) && bracketed c
 writtenTest (Test.more s) = true
 writtenTest (Test.notParsed type s x) = true
 writtenTest (Test.notValid type x) = true

@@ -4,7 +4,6 @@ pub mod Cases
 pub mod Records
 pub mod Counted
 pub mod Names
-pub mod Parser
 pub mod Texts
 pub mod Steps
 pub mod Conditions

@@ -6,8 +6,9 @@ use mathlib.Core.List.{List, [], _∷_, _++_}
 use Prim.Native.Nat.{ℕ, _/_}
 use Rattle.definitions.specs.Bytes.{Text, text, pick, decimal}
 use Rattle.definitions.specs.Lines.{Expr, Src, Test, Before, Dest, Out, Line, Stmt}
-use Rattle.definitions.specs.Blocks.{raw, span, elementSpan, body, checkSize, Kind, Bit, Chunk, widths, readOf, mask, rawName, nextRaw, kindLines, shouldSkipValue, chunkName, bitsLines, readLines, chunkLines, chunksLines, Elem, Array, named, bare, parseLines, parseArrayElement, parseArrayFieldLite, parseArrayFieldFull, byMode, arrayLines, fieldLines, Block, startName, gone, missing, whenIs, roomFor, blockLines, program}
+use Rattle.definitions.specs.Blocks.{raw, span, elementSpan, body, checkSize, checkProduct, Kind, Bit, Chunk, widths, readOf, mask, rawName, nextRaw, kindLines, shouldSkipValue, chunkName, bitsLines, readLines, chunkLines, chunksLines, Elem, Array, named, bare, parseLines, parseArrayElement, parseArrayFieldLite, parseArrayFieldFull, byMode, arrayLines, fieldLines, Block, startName, gone, missing, whenIs, roomFor, blockLines, program}
 use Rattle.definitions.specs.declared.Raw.{Raw}
+use Rattle.definitions.specs.declared.Products.{Products}
 use Rattle.definitions.specs.declared.Options.{Options}
 use Rattle.definitions.specs.declared.Arrays.{Arrays}
 use Rattle.definitions.specs.declared.Modifier.{Modifier}
@@ -67,6 +68,7 @@ module _ (P : Text → Type 0) where
   TestReads (Test.ragged a b) = ExprReads a × ExprReads b
   TestReads (Test.equal a b) = ExprReads a × ExprReads b
   TestReads (Test.raggedOrZero a b) = ExprReads a × ExprReads b
+  TestReads (Test.divided a b c) = (ExprReads a × ExprReads b) × ExprReads c
   TestReads (Test.more s) = Unit {0}
   TestReads (Test.notParsed type s x) = Unit {0}
   TestReads (Test.notValid type x) = Unit {0}
@@ -209,6 +211,10 @@ module _ (P : Text → Type 0) where
   room-line : (n : ℕ) {b c : List Line} → Lines Link.free b c → Lines Link.free (checkSize (Expr.lit n) ∷ b) (checkSize (Expr.lit n) ∷ c)
   room-line n k = Lines.next (LineAs.same (checkSize (Expr.lit n)) (tt, tt)) k
 
+  product-reads : (o : Products) (a b : Expr) → ExprReads a → ExprReads b → LineReads (checkProduct o a b)
+  product-reads Products.Plain a b h k = (tt, (h, k))
+  product-reads Products.Divide a b h k = ((tt, h), k)
+
   -- behind a padded array
   abbrev paddingLines : Text → ℕ → List Line
   paddingLines z p = roomFor (missing z p) ∷ Line.skip span (missing z p) ∷ []
@@ -218,7 +224,7 @@ module _ (P : Text → Type 0) where
       Lines.next (LineAs.same (roomFor (missing z p)) (tt, (tt, (h, tt)))) (one-line (Line.skip span (missing z p)) (tt, (h, tt)))
 
   module _ (has : HasNames) where
-    module _ (id type : Text) (elem : Elem) {l m : List Stmt} (behind : Alike Link.free l m) where
+    module _ (o : Products) (id type : Text) (elem : Elem) {l m : List Stmt} (behind : Alike Link.free l m) where
       -- the variables of this array
       size-of : (a : Arrays) → P (named a id (text "_size_"))
       size-of a = has .size a id
@@ -238,13 +244,13 @@ module _ (P : Text → Type 0) where
           let e : Expr = Expr.var (named Arrays.Full id (text "_element_size_")) in
           Line.part Before.auto elementSpan span (Expr.mul Expr.turn e) e
 
-      in-part : (d : Dest) (o : Out)
-          → Lines Link.free (cut-part ∷ parseArrayElement elementSpan (Elem.parsed type) d o) (cut-part ∷ parseArrayElement elementSpan (Elem.parsed type) d o)
-      in-part d o = Lines.next (LineAs.same cut-part ((tt, element-of Arrays.Full), element-of Arrays.Full)) (element-lines elementSpan (Elem.parsed type) d o)
+      in-part : (d : Dest) (x : Out)
+          → Lines Link.free (cut-part ∷ parseArrayElement elementSpan (Elem.parsed type) d x) (cut-part ∷ parseArrayElement elementSpan (Elem.parsed type) d x)
+      in-part d x = Lines.next (LineAs.same cut-part ((tt, element-of Arrays.Full), element-of Arrays.Full)) (element-lines elementSpan (Elem.parsed type) d x)
 
-      ruleset steps = (size-of, count-of, element-of, own-of, Alike.same, parse-lines, element-lines)
+      ruleset steps = (size-of, count-of, element-of, own-of, Alike.same, product-reads, parse-lines, element-lines)
 
-      lite-alike : (w : ElementSize) (n : ArraySize) → Alike Link.free (parseArrayFieldLite id type elem l w n) (parseArrayFieldLite id type elem m w n)
+      lite-alike : (w : ElementSize) (n : ArraySize) → Alike Link.free (parseArrayFieldLite o id type elem l w n) (parseArrayFieldLite o id type elem m w n)
       lite-alike (ElementSize.Static es) (ArraySize.StaticCount n) = search steps depth 20
       lite-alike (ElementSize.Static es) ArraySize.DynamicCount = search steps depth 20
       lite-alike (ElementSize.Static es) ArraySize.DynamicSize = search steps depth 20
@@ -258,7 +264,7 @@ module _ (P : Text → Type 0) where
       lite-alike ElementSize.Unknown ArraySize.DynamicSize = search steps depth 20
       lite-alike ElementSize.Unknown ArraySize.Unknown = search steps depth 20
 
-      full-alike : (w : ElementSize) (n : ArraySize) → Alike Link.free (parseArrayFieldFull id type elem l w n) (parseArrayFieldFull id type elem m w n)
+      full-alike : (w : ElementSize) (n : ArraySize) → Alike Link.free (parseArrayFieldFull o id type elem l w n) (parseArrayFieldFull o id type elem m w n)
       full-alike (ElementSize.Static es) (ArraySize.StaticCount n) = search steps depth 20
       full-alike (ElementSize.Static es) ArraySize.DynamicCount = search steps depth 20
       full-alike (ElementSize.Static es) ArraySize.DynamicSize = search steps depth 20
@@ -276,10 +282,10 @@ module _ (P : Text → Type 0) where
     array-alike a {l} {m} k = by (a .mode)
       where
         by : (x : Arrays)
-            → Alike Link.free (byMode x (a .id) (a .type) (a .elem) l (a .elementSize) (a .arraySize))
-            (byMode x (a .id) (a .type) (a .elem) m (a .elementSize) (a .arraySize))
-        by Arrays.Lite = lite-alike (a .id) (a .type) (a .elem) k (a .elementSize) (a .arraySize)
-        by Arrays.Full = full-alike (a .id) (a .type) (a .elem) k (a .elementSize) (a .arraySize)
+            → Alike Link.free (byMode x (a .products) (a .id) (a .type) (a .elem) l (a .elementSize) (a .arraySize))
+            (byMode x (a .products) (a .id) (a .type) (a .elem) m (a .elementSize) (a .arraySize))
+        by Arrays.Lite = lite-alike (a .products) (a .id) (a .type) (a .elem) k (a .elementSize) (a .arraySize)
+        by Arrays.Full = full-alike (a .products) (a .id) (a .type) (a .elem) k (a .elementSize) (a .arraySize)
 
     field-alike : (x : Modifier) (w : ℕ) (a : Array) {l m : List Stmt} → Alike Link.free l m → Alike Link.free (fieldLines x w a l) (fieldLines x w a m)
     field-alike Modifier.None w a k = array-alike a k

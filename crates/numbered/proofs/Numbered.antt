@@ -1,7 +1,7 @@
 -- Document 02, Card 7: the numbers behind `raw_value` change nothing but these names. Read this file first. The statements name `answer`, `render` and
 -- `program` (definitions: Answer, Lines, Blocks), `run` (meaning/specs/Machine), the record without its line `raw` (alike/specs/Without), and what is in
--- specs/ here: blocks without their numbers (Plainly), a text without their digits (Digits), runs that stand the same (Faring), and the numbers of an
--- answer (Numbers).
+-- specs/ here: blocks without their numbers (Plainly, over alike/specs/Chosen), a text without their digits (Digits), runs that stand the same
+-- (Faring), and the numbers of an answer (Numbers).
 -- Assumes nothing.
 use mathlib.Core.Bool.{false}
 use mathlib.Core.List.{List}
@@ -18,12 +18,13 @@ use Rattle.definitions.specs.declared.Raw.{Raw}
 use Rattle.definitions.specs.declared.Head.{Head}
 use Rattle.meaning.specs.Machine.{State, Reply, start, run}
 use Rattle.alike.specs.Without.{withoutRaw, plainHead}
-use Rattle.numbered.specs.Plainly.{plainSetting, forget, forgetOutcome, PlainBlocks}
+use Rattle.alike.specs.Chosen.{productsStay}
+use Rattle.alike.proofs.Chosen.{fields-by, record-by}
+use Rattle.numbered.specs.Plainly.{rawPlain, plainSetting, forget, forgetOutcome, PlainBlocks}
 use Rattle.numbered.specs.Digits.{DigitsOut, NoneLikeRaw}
 use Rattle.numbered.specs.Faring.{SameState, SameStanding}
 use Rattle.numbered.specs.Numbers.{numbersIn, Counts}
-use Rattle.numbered.proofs.Parser.{fields-plain, record-plain, blocks-same}
-use Rattle.numbered.proofs.Records.{record-without, record-forgets, without-fits, written-out}
+use Rattle.numbered.proofs.Records.{blocks-stay, record-without, record-forgets, without-fits, written-out}
 use Rattle.numbered.proofs.Listings.{BlocksRead, program-alike}
 use Rattle.numbered.proofs.Texts.{blocks-out}
 use Rattle.numbered.proofs.Unlike.{UnlikeRaw, unlike-names}
@@ -46,12 +47,12 @@ numbers-apart j k a b e = names-apart j k a b e
 
 -- With `raw` plain the fields of a target give what they give else, without the numbers: the same refusal, or the blocks so.
 pub plain-fields : (c : Setting) (xs : List Annotated) → lowerFields (plainSetting c) xs ≡ forgetOutcome (lowerFields c xs)
-plain-fields c xs = fields-plain c xs
+plain-fields c xs = fields-by rawPlain productsStay c xs
 
 -- So does every record, whatever refusal it meets: no test looks at `raw`.
 pub plain-record : (s : Text) (h : Head) (ds : List Declaration) (schema : Schema)
     → lowerRecord s (plainHead h) ds schema ≡ forgetOutcome (lowerRecord s h ds schema)
-plain-record s h ds schema = record-plain s h ds schema
+plain-record s h ds schema = record-by rawPlain productsStay s h ds schema
 
 -- And the record without its line `raw`, wherever the record itself can be read and has a right length.
 pub without-raw : (s : Text) (h : Head) (ds : List Declaration) → readRecord s ≡ recordIs h ds → wrongLength s ≡ false
@@ -60,7 +61,7 @@ without-raw s h ds e w = record-without s h ds e w
 
 -- Blocks without numbers are as they were.
 pub plain-stays : (bs : List Block) → PlainBlocks bs → forget bs ≡ bs
-plain-stays bs h = blocks-same bs h
+plain-stays bs h = blocks-stay bs h
 
 -- So are those of an accepted record whose `raw` is plain.
 pub plain-accepted : (s : Text) (bs : List Block) → answer s ≡ accepted bs → (h : Head) (ds : List Declaration) → readRecord s ≡ recordIs h ds

@@ -1,4 +1,5 @@
 -- Two records that differ in the line `raw` alone: what the one answers without it (`record-without`), and the blocks of both (`record-forgets`).
+-- Blocks without numbers stay (`blocks-stay`).
 -- Assumes nothing.
 use mathlib.Core.Bool.{Bool, true, false}
 use mathlib.Core.List.{List}
@@ -21,15 +22,20 @@ use Rattle.definitions.specs.declared.Refusal.{Refusal}
 use Rattle.meaning.proofs.Entries.{has-record}
 use Rattle.meaning.proofs.Printed.{lines-printed}
 use Rattle.alike.specs.Without.{withoutRaw}
+use Rattle.alike.specs.Chosen.{productsStay, optionsBy}
+use Rattle.alike.proofs.Chosen.{record-by, blocks-same}
 use Rattle.alike.proofs.Plainly.{answer-of, accepted-length, answer-plainly, plain-as-absent}
-use Rattle.numbered.specs.Plainly.{forget, forgetOutcome}
+use Rattle.numbered.specs.Plainly.{rawPlain, forget, forgetOutcome, PlainBlocks}
 use Rattle.numbered.specs.Digits.{DigitsOut}
-use Rattle.numbered.proofs.Parser.{record-plain}
 use Rattle.numbered.proofs.Texts.{blocks-out, no-longer}
+
+pub blocks-stay : (bs : List Block) → PlainBlocks bs → forget bs ≡ bs
+blocks-stay bs h = blocks-same rawPlain productsStay _ _ (λ o e. ap (λ (m : Raw). optionsBy (λ _. m) productsStay o) (sym e)) (λ a _. refl) bs h
 
 pub record-without : (s : Text) (h : Head) (ds : List Declaration) → readRecord s ≡ recordIs h ds → wrongLength s ≡ false
     → answer (withoutRaw s) ≡ forgetOutcome (answer s)
-record-without s h ds e w = answer-plainly s h ds e w ∙ record-plain s h ds (newSchema s ds) ∙ ap forgetOutcome (sym (answer-of s h ds w e))
+record-without s h ds e w =
+    answer-plainly s h ds e w ∙ record-by rawPlain productsStay s h ds (newSchema s ds) ∙ ap forgetOutcome (sym (answer-of s h ds w e))
 
 pub accepted-without : (s : Text) (bs : List Block) → answer s ≡ accepted bs → answer (withoutRaw s) ≡ accepted (forget bs)
 accepted-without s bs e =

@@ -142,6 +142,11 @@ module _ (W : Text → ℕ) where
     test-as σ k (Test.raggedOrZero a b) r t f u g h i =
         num-as σ k b (r .1) _ _
         (λ y. on-pick (eqZ y (pos 0)) (h σ k) (num-as σ k (Expr.rem a b) r _ _ (λ x. on-pick (eqZ x (pos 0)) (i σ k) (h σ k))))
+    test-as σ k (Test.divided a b c) r t f u g h i =
+        num-as σ k b (r .0 .1) _ _
+        (λ y.
+        on-pick (eqZ y (pos 0)) (i σ k)
+        (num-as σ k (Expr.div a b) (r .0) _ _ (λ x. num-as σ k c (r .1) _ _ (λ z. on-pick (less (Expr.div a b) x z) (h σ k) (i σ k)))))
     test-as σ k (Test.more s) r t f u g h i = on-pick (ltb 0 (length (σ .spans s))) (h σ k) (i σ k)
     test-as σ k (Test.notParsed type s x) r t f u g h i =
         ask-as σ k _ _

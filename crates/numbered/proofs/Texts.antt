@@ -45,6 +45,7 @@ test-out (Test.less a b) h = search (bytes, expr-out) depth 60
 test-out (Test.ragged a b) h = search (bytes, expr-out) depth 60
 test-out (Test.equal a b) h = search (bytes, expr-out) depth 60
 test-out (Test.raggedOrZero a b) h = search (bytes, expr-out) depth 60
+test-out (Test.divided a b c) h = search (bytes, expr-out) depth 60
 test-out (Test.more s) h = search bytes depth 60
 test-out (Test.notParsed type s x) h = search bytes depth 60
 test-out (Test.notValid type x) h = search bytes depth 60

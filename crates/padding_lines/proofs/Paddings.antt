@@ -6,7 +6,7 @@ use Prim.Native.Nat.{ℕ}
 use Rattle.definitions.specs.Bytes.{Text, text, decimal}
 use Rattle.definitions.specs.Lines.{Expr, Line, Before, Stmt, lineText, stmtText, stmtsText, render}
 use Rattle.definitions.specs.Blocks.{span, startName, fieldLines, Block}
-use Rattle.definitions.specs.declared.Arrays.{Arrays}
+use Rattle.definitions.specs.declared.Options.{Options}
 use Rattle.definitions.specs.declared.Modifier.{Modifier}
 use Rattle.definitions.specs.declared.ElementSize.{ElementSize}
 use Rattle.definitions.specs.declared.ArraySize.{ArraySize}
@@ -42,15 +42,15 @@ start-line : (id : Text) {l l₁ : Text} {i r : ℕ} → Put l i (text "size_t "
     → Put l i (lineText 0 (Line.setTo Before.sizeT (startName id) (Expr.size span)) []) r l₁
 start-line id p = like (simp append-assoc) p
 
-pub padded-array : (w : ℕ) (k : Modifier) (m : Arrays) (id type : Text) (element : Element) (e : ElementSize) (n : ArraySize)
+pub padded-array : (w : ℕ) (k : Modifier) (o : Options) (id type : Text) (element : Element) (e : ElementSize) (n : ArraySize)
     {l l₁ l₂ l₃ : Text} {i r₁ r₂ r₃ : ℕ}
     → Put l i (text "size_t " ++ (id ++ text "_start_size = span.size();\n")) r₁ l₁
-    → Put l₁ r₁ (arrayText m id type element k e n) r₂ l₂
+    → Put l₁ r₁ (arrayText o id type element k e n) r₂ l₂
     → Put l₂ r₂ (paddingText id w) r₃ l₃
-    → Put l i (blockText (Block.paddedArray w k 64 (arrayOf m id type element e n))) r₃ l₃
+    → Put l i (blockText (Block.paddedArray w k 64 (arrayOf o id type element e n))) r₃ l₃
 unfolding blockText arrayText paddingText
-padded-array w k m id type element e n a b c =
-    let xs : List Stmt = fieldLines k 64 (arrayOf m id type element e n) [] in
+padded-array w k o id type element e n a b c =
+    let xs : List Stmt = fieldLines k 64 (arrayOf o id type element e n) [] in
     follow (line-leads 0 (Line.setTo Before.sizeT (startName id) (Expr.size span))) (start-line id a)
-    (like (stmts-one xs (padding (startName id) w) ∙ ap render (sym (field-split k 64 (arrayOf m id type element e n) (padding (startName id) w ∷ []))))
+    (like (stmts-one xs (padding (startName id) w) ∙ ap render (sym (field-split k 64 (arrayOf o id type element e n) (padding (startName id) w ∷ []))))
     (follow (stmts-leads xs) b c))

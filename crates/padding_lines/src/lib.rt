@@ -1,7 +1,7 @@
 // The block of an array with its padding: what `parse` of cxx.rs appends around an array that has a padded size. Document 01, 'Lowering'; the texts
 // are those of definitions' Blocks.
 use arrays::ArrayShape;
-use definitions::Arrays;
+use definitions::Options;
 ghost use Rattle.definitions.specs.Blocks.{Block};
 ghost use Rattle.text.specs.Put.{Put};
 ghost use Rattle.stream.specs.Stream.{blockText};
@@ -37,7 +37,7 @@ pub fn put_padded_array(
     out: &mut [u8],
     at: usize,
     padding: u64,
-    arrays: Arrays,
+    options: Options,
     id: &[u8],
     type_id: &[u8],
     shape: ArrayShape,
@@ -45,10 +45,10 @@ pub fn put_padded_array(
     requires { ⌜ ProductFits (shape .«element_size») (shape .«array_size») ⌝ }
     ensures { λ r. ⌜ Put (now (out .entry)) at
         (blockText (Block.paddedArray padding (shape .modifier) 64
-        (arrayOf arrays (now (id .entry)) (now («type_id» .entry)) (shape .element) (shape .«element_size») (shape .«array_size»))))
+        (arrayOf options (now (id .entry)) (now («type_id» .entry)) (shape .element) (shape .«element_size») (shape .«array_size»))))
         r (now (out .exit)) ⌝ }
 {
     let p = text::put_name(out, at, b"size_t ", id, b"_start_size = span.size();\n");
-    let q = arrays::put_array(out, p, arrays, id, type_id, shape);
+    let q = arrays::put_array(out, p, options, id, type_id, shape);
     put_padding(out, q, id, padding)
 }

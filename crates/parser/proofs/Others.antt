@@ -47,7 +47,7 @@ module _ (o : Options) (s : Text) (t : State) (e : EmitAt) where
       subst (λ (x : EmitAt). Stepped t (saidAdvance (calm (seen t bs)) (saidIn o s bits x)) bs out at r left) (sym h) (d bits bs)
 
   pub says-block : {b : BlockAt} → e ≡ EmitAt.Appends b → {out left : Text} {at p : ℕ}
-      → ((bits : Part → ℕ) → Put out at (blockText (blockOf s (text "payload") (o .endianness) (o .arrays) bits b)) p left)
+      → ((bits : Part → ℕ) → Put out at (blockText (blockOf s (text "payload") o bits b)) p left)
       → Says out at (record { verdict = Verdict.Pass; at = p; state = quiet t }) left
   says-block h put = with-emit h (λ bits bs. record {
     advances = record { verdict-is = refl; wrote = put bits; goes-on = λ v. refl };

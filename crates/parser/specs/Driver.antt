@@ -20,7 +20,7 @@ use Rattle.parser.specs.declared.Lowered.{Lowered}
 
 -- what a field that is no bit field says; `bits` are those of an array's size variable, which are not written
 abbrev pub saidIn : Options → Text → (Part → ℕ) → EmitAt → Said
-saidIn o s bits emit = saidBy (emitOf s (text "payload") (o .endianness) (o .arrays) bits emit)
+saidIn o s bits emit = saidBy (emitOf s (text "payload") o bits emit)
 
 -- a bit field that fills its chunk
 abbrev pub isAlone : ℕ → ℕ → Bool

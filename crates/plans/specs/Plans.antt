@@ -29,7 +29,7 @@ entryAt plan k = getD plan k anyPlan
 -- `bits` gives the bits of an array's size variable: they are not written
 abbrev pub plannedIn : Options → Text → (Part → ℕ) → PlanAt → Planned
 plannedIn o s bits (PlanAt.Bit width later kind) = bit width (kindIn (o .arrays) s (text "payload") kind)
-plannedIn o s bits (PlanAt.Other must emit) = other must (saidBy (emitOf s (text "payload") (o .endianness) (o .arrays) bits emit))
+plannedIn o s bits (PlanAt.Other must emit) = other must (saidBy (emitOf s (text "payload") o bits emit))
 
 -- m entries from number k on
 unfoldable pub plansFrom : Options → Text → (Part → ℕ) → List PlanAt → ℕ → ℕ → List Planned

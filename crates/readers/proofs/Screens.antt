@@ -6,7 +6,7 @@ use mathlib.Core.List.{_∷_}
 use mathlib.Core.Path.{_≡_, refl, sym, ap, _∙_}
 use Rattle.definitions.specs.Bytes.{Text, text, part, pick}
 use Rattle.definitions.specs.Keywords.{isKeyword}
-use Rattle.definitions.specs.Record.{keyAt, onFound, onNumber, onBit, onMaybeNumber, onMaybeSize, onPart, onCond, onDesc, numberLine, bitLine, nameLine, maybeNameLine, bitsLine, maybeNumberLine, descAt, condAt, fieldAt, parentedAt, enumAt, checksumDeclAt, customAt, trailingAt, rawAt, behindTrailing, optionalAt, headIs}
+use Rattle.definitions.specs.Record.{keyAt, onFound, onNumber, onBit, onMaybeNumber, onMaybeSize, onPart, onCond, onDesc, numberLine, bitLine, nameLine, maybeNameLine, bitsLine, maybeNumberLine, descAt, condAt, fieldAt, parentedAt, enumAt, checksumDeclAt, customAt, trailingAt, rawAt, productsAt, behindRaw, behindTrailing, optionalAt, headIs}
 use Rattle.definitions.specs.Refusals.{anyKeyword, maybeName, descNames, condNames}
 use Rattle.definitions.specs.declared.Part.{Part}
 use Rattle.definitions.specs.declared.MaybePart.{MaybePart}
@@ -26,6 +26,7 @@ use Rattle.definitions.specs.declared.FieldRead.{FieldRead}
 use Rattle.definitions.specs.declared.DeclRead.{DeclRead}
 use Rattle.definitions.specs.declared.TrailingRead.{TrailingRead}
 use Rattle.definitions.specs.declared.RawRead.{RawRead}
+use Rattle.definitions.specs.declared.ProductsRead.{ProductsRead}
 use Rattle.definitions.specs.declared.OptionalRead.{OptionalRead}
 use Rattle.definitions.specs.declared.HeadRead.{HeadRead}
 use Rattle.definitions.specs.declared.ScreenedName.{ScreenedName}
@@ -307,17 +308,23 @@ module _ {A : Type 0} (bad : A) (f : ℕ → A) {x : A} {r e : Found} (h : r ≡
 
 pub ruleset line-chain = (line-found, line-absent)
 
--- both of them
-pub optional-lines : (s : Text) (at : ℕ) {first : TrailingRead} {second : RawRead} → first ≡ trailingAt s at → second ≡ rawAt s (first .next)
-    → behindTrailing (first .trailing) second ≡ optionalAt s at
+-- all of them
+pub optional-lines : (s : Text) (at : ℕ) {first : TrailingRead} {second : RawRead} {third : ProductsRead} → first ≡ trailingAt s at
+    → second ≡ rawAt s (first .next) → third ≡ productsAt s (second .next)
+    → record { trailing = first .trailing; raw = second .raw; products = third .products; next = third .next } ≡ optionalAt s at
 unfolding optionalAt
-optional-lines s at {first} {second} e f =
-    ap (behindTrailing (first .trailing)) f ∙ ap (λ (t : TrailingRead). behindTrailing (t .trailing) (rawAt s (t .next))) e
+optional-lines s at {first} {second} {third} e f g =
+    ap (λ (w : ProductsRead). record { trailing = first .trailing; raw = second .raw; products = w .products; next = w .next }) g
+    ∙ ap (behindRaw s (first .trailing)) f
+    ∙ ap (behindTrailing s) e
 
 module _ (endianness : EndiannessValue) (arrays : Arrays) {target : ScreenedName} (last : OptionalRead) where
   pub head-free : {t : Part} → target ≡ ScreenedName.Free t
       → ScreenedHead.Is
-      (record { options = record { endianness = endianness; arrays = arrays; trailing = last .trailing; raw = last .raw }; target = t })
+      (record {
+        options = record { endianness = endianness; arrays = arrays; trailing = last .trailing; raw = last .raw; products = last .products };
+        target = t;
+      })
       (last .next)
       ≡ headOf endianness arrays target last
   head-free h = rw h
@@ -345,7 +352,10 @@ module _ (s : Text) (at : ℕ) (endianness : EndiannessValue) where
           → headOf endianness arrays (pick b ScreenedName.Keyword (ScreenedName.Free target)) t
           ≡ pick b (ScreenedHead.Keyword (t .next))
           (ScreenedHead.Is
-          (record { options = record { endianness = endianness; arrays = arrays; trailing = t .trailing; raw = t .raw }; target = target })
+          (record {
+            options = record { endianness = endianness; arrays = arrays; trailing = t .trailing; raw = t .raw; products = t .products };
+            target = target;
+          })
           (t .next))
       by true = refl
       by false = refl

@@ -28,6 +28,6 @@ targetAt s at endianness =
 abbrev pub headOf : EndiannessValue → Arrays → ScreenedName → OptionalRead → ScreenedHead
 headOf endianness arrays (ScreenedName.Free target) t =
     ScreenedHead.Is
-    (record { options = record { endianness = endianness; arrays = arrays; trailing = t .trailing; raw = t .raw }; target = target })
+    (record { options = record { endianness = endianness; arrays = arrays; trailing = t .trailing; raw = t .raw; products = t .products }; target = target })
     (t .next)
 headOf endianness arrays ScreenedName.Keyword t = ScreenedHead.Keyword (t .next)

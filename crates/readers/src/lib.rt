@@ -1,5 +1,5 @@
-// A field, a declaration and the head, as they stand at a place of the record (document 01, 'The record'; the head's lines `trailing` and `raw`: document
-// 02, Cards 3 and 7), or that a name in them is a keyword of C++ (document 02, Card 6).
+// A field, a declaration and the head, as they stand at a place of the record (document 01, 'The record'; the head's lines `trailing`, `raw` and `products`:
+// document 02, Cards 3, 7 and 8), or that a name in them is a keyword of C++ (document 02, Card 6).
 
 use definitions::Arrays;
 use definitions::BitRead;
@@ -17,6 +17,8 @@ use definitions::MaybeSizeRead;
 use definitions::NumberRead;
 use definitions::OptionalRead;
 use definitions::Options;
+use definitions::Products;
+use definitions::ProductsRead;
 use definitions::Raw;
 use definitions::RawRead;
 use definitions::ScreenedCond;
@@ -31,7 +33,7 @@ use definitions::ScreenedPartRead;
 use definitions::Trailing;
 use definitions::TrailingRead;
 ghost use mathlib.Core.Path.{_≡_};
-ghost use Rattle.definitions.specs.Record.{condAt, fieldAt, parentedAt, enumAt, checksumDeclAt, customAt, declAt, trailingAt, rawAt, optionalAt, headAt};
+ghost use Rattle.definitions.specs.Record.{condAt, fieldAt, parentedAt, enumAt, checksumDeclAt, customAt, declAt, trailingAt, rawAt, productsAt, optionalAt, headAt};
 ghost use Rattle.keywords.specs.Screens.{screenCond, screenField, screenDecl, screenHead};
 ghost use Rattle.readers.specs.Heads.{parented, targetAt, headOf};
 
@@ -289,18 +291,39 @@ fn raw_at(rec: &[u8], at: usize) -> RawRead
     }
 }
 
+// `products`, likewise.
+fn products_at(rec: &[u8], at: usize) -> ProductsRead
+    ensures { λ r. ⌜ r ≡ productsAt (now (rec .entry)) at ⌝ }
+{
+    if let Found::At(next) = names::key_at(rec, at, b"products=plain\n") {
+        let products = Products::Plain;
+        return ProductsRead { products, next };
+    }
+    if let Found::At(next) = names::key_at(rec, at, b"products=divide\n") {
+        let products = Products::Divide;
+        return ProductsRead { products, next };
+    }
+    ProductsRead {
+        products: Products::Plain,
+        next: at,
+    }
+}
+
 // The lines that may be absent, in their order.
 fn optional_at(rec: &[u8], at: usize) -> OptionalRead
     ensures { λ r. ⌜ r ≡ optionalAt (now (rec .entry)) at ⌝ }
 {
     let first = trailing_at(rec, at);
     let second = raw_at(rec, first.next);
+    let third = products_at(rec, second.next);
     let trailing = first.trailing;
     let raw = second.raw;
+    let products = third.products;
     OptionalRead {
         trailing,
         raw,
-        next: second.next,
+        products,
+        next: third.next,
     }
 }
 
@@ -315,6 +338,7 @@ fn head_of(
 {
     let trailing = last.trailing;
     let raw = last.raw;
+    let products = last.products;
     let next = last.next;
     match target {
         ScreenedName::Free(target) => {
@@ -323,6 +347,7 @@ fn head_of(
                 arrays,
                 trailing,
                 raw,
+                products,
             };
             ScreenedHead::Is(Head { options, target }, next)
         }
@@ -346,7 +371,7 @@ fn target_at(rec: &[u8], at: usize, endianness: EndiannessValue) -> ScreenedHead
     ScreenedHead::Wrong
 }
 
-// The head: `endian`, `target`, `arrays`, and `trailing` and `raw` where they are there.
+// The head: `endian`, `target`, `arrays`, and `trailing`, `raw` and `products` where they are there.
 pub fn head_at(rec: &[u8], at: usize) -> ScreenedHead
     ensures { λ r. ⌜ r ≡ screenHead (now (rec .entry)) (headAt (now (rec .entry)) at) ⌝ }
 {

@@ -9,6 +9,7 @@ use Rattle.definitions.specs.Lines.{Line, Stmt, Before, Expr, Test, lineText, l
 use Rattle.definitions.specs.Blocks.{body, checkSize, Chunk, chunkLines, chunksLines, Elem, Array, parseArrayFieldLite, parseArrayFieldFull, byMode, sizeName, fieldLines, Block, startName, gone, missing, roomFor, span, blockLines, program}
 use Rattle.definitions.specs.declared.Options.{Options}
 use Rattle.definitions.specs.declared.Arrays.{Arrays}
+use Rattle.definitions.specs.declared.Products.{Products}
 use Rattle.definitions.specs.declared.Modifier.{Modifier}
 use Rattle.definitions.specs.declared.ElementSize.{ElementSize}
 use Rattle.definitions.specs.declared.ArraySize.{ArraySize}
@@ -41,8 +42,8 @@ body-text (x ∷ l) = ap (lineText 0 x) (body-text l)
 
 -- ---- each block
 
-module _ (id type : Text) (elem : Elem) (l : List Stmt) where
-  lite-split : (e : ElementSize) (n : ArraySize) → parseArrayFieldLite id type elem l e n ≡ parseArrayFieldLite id type elem [] e n ++ l
+module _ (o : Products) (id type : Text) (elem : Elem) (l : List Stmt) where
+  lite-split : (e : ElementSize) (n : ArraySize) → parseArrayFieldLite o id type elem l e n ≡ parseArrayFieldLite o id type elem [] e n ++ l
   lite-split (ElementSize.Static es) (ArraySize.StaticCount n) = refl
   lite-split (ElementSize.Static es) ArraySize.DynamicCount = refl
   lite-split (ElementSize.Static es) ArraySize.DynamicSize = refl
@@ -56,7 +57,7 @@ module _ (id type : Text) (elem : Elem) (l : List Stmt) where
   lite-split ElementSize.Unknown ArraySize.DynamicSize = refl
   lite-split ElementSize.Unknown ArraySize.Unknown = refl
 
-  full-split : (e : ElementSize) (n : ArraySize) → parseArrayFieldFull id type elem l e n ≡ parseArrayFieldFull id type elem [] e n ++ l
+  full-split : (e : ElementSize) (n : ArraySize) → parseArrayFieldFull o id type elem l e n ≡ parseArrayFieldFull o id type elem [] e n ++ l
   full-split (ElementSize.Static es) (ArraySize.StaticCount n) = refl
   full-split (ElementSize.Static es) ArraySize.DynamicCount = refl
   full-split (ElementSize.Static es) ArraySize.DynamicSize = refl
@@ -70,18 +71,18 @@ module _ (id type : Text) (elem : Elem) (l : List Stmt) where
   full-split ElementSize.Unknown ArraySize.DynamicSize = refl
   full-split ElementSize.Unknown ArraySize.Unknown = refl
 
-  mode-split : (m : Arrays) (e : ElementSize) (n : ArraySize) → byMode m id type elem l e n ≡ byMode m id type elem [] e n ++ l
+  mode-split : (m : Arrays) (e : ElementSize) (n : ArraySize) → byMode m o id type elem l e n ≡ byMode m o id type elem [] e n ++ l
   mode-split Arrays.Lite e n = lite-split e n
   mode-split Arrays.Full e n = full-split e n
 
 pub field-split : (m : Modifier) (w : ℕ) (a : Array) (l : List Stmt) → fieldLines m w a l ≡ fieldLines m w a [] ++ l
-field-split Modifier.None w a l = mode-split (a .id) (a .type) (a .elem) l (a .mode) (a .elementSize) (a .arraySize)
+field-split Modifier.None w a l = mode-split (a .products) (a .id) (a .type) (a .elem) l (a .mode) (a .elementSize) (a .arraySize)
 field-split (Modifier.Plus n) w a l =
     ap (λ (t : List Stmt). Stmt.one (Line.minus w (sizeName a) n) ∷ t)
-    (mode-split (a .id) (a .type) (a .elem) l (a .mode) (a .elementSize) (a .arraySize))
+    (mode-split (a .products) (a .id) (a .type) (a .elem) l (a .mode) (a .elementSize) (a .arraySize))
 field-split (Modifier.Minus n) w a l =
     ap (λ (t : List Stmt). Stmt.one (Line.plus w (sizeName a) n) ∷ t)
-    (mode-split (a .id) (a .type) (a .elem) l (a .mode) (a .elementSize) (a .arraySize))
+    (mode-split (a .products) (a .id) (a .type) (a .elem) l (a .mode) (a .elementSize) (a .arraySize))
 
 -- what the padding after an array adds
 abbrev pub padding : Text → ℕ → Stmt

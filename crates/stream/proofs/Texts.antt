@@ -56,6 +56,8 @@ test-leads (Test.ragged a b) = piece (text "(") ▸ expr-leads (Expr.rem a b) �
 test-leads (Test.equal a b) = expr-leads a ▸ piece (text " == ") ▸ expr-leads b
 test-leads (Test.raggedOrZero a b) =
     expr-leads b ▸ piece (text " == 0 || (") ▸ expr-leads (Expr.rem a b) ▸ piece (text ") != 0")
+test-leads (Test.divided a b c) =
+    expr-leads b ▸ piece (text " != 0 && ") ▸ expr-leads (Expr.div a b) ▸ piece (text " < ") ▸ expr-leads c
 test-leads (Test.more s) = piece s ▸ piece (text ".size() > 0")
 test-leads (Test.notParsed type s x) =
     piece (text "!") ▸ piece type ▸ piece (text "::Parse(") ▸ piece s ▸ piece (text ", &") ▸ piece x ▸ piece (text ")")

@@ -23,7 +23,7 @@ use Rattle.trailing.specs.Values.{typedefUpTo, typedefAt, unsizedAt, pay
 module _ (c : Setting) where
   -- the definitions' `Emit` that a value stands for
   abbrev emit : EmitAt → Emit
-  emit e = emitOf (c .source) (text "payload") (c .options .endianness) (c .options .arrays) (λ id. sizeBacking (c .source) id (c .fields)) e
+  emit e = emitOf (c .source) (text "payload") (c .options) (λ id. sizeBacking (c .source) id (c .fields)) e
 
   abbrev bitsBehind : List Annotated → MaybeNumber
   bitsBehind later = getTrailingSize (c .options .trailing) later

@@ -1,4 +1,4 @@
-use Rattle.full_arrays.proofs.Full.{by-full}
+use Rattle.full_arrays.proofs.Full.{by-full, by-unknown}
 use Rattle.array_lines.proofs.Products.{fits-static}
 use borrow.Author.Needs.{needs}
 use Rattle.full_arrays.proofs.parse_array_field_full.Statement.{statement}
@@ -38,7 +38,7 @@ same-length-3 : tie.Need-same-length-3
 same-length-3 c = search needs
 
 returns-3 : tie.Need-returns-3
-returns-3 c = search (by-full, needs)
+returns-3 c = search (by-unknown, needs)
 
 pub parse-array-field-full-spec : {M : Type 1} → statement M
 parse-array-field-full-spec =

@@ -3,8 +3,8 @@ use borrow.Author.Needs.{needs}
 use Rattle.full_arrays.proofs.put_product_parts.Statement.{statement}
 use Rattle.full_arrays.proofs.put_product_parts.Tie as tie
 
-check-size-requires : tie.Need-check-size-requires
-check-size-requires c κs = search needs
+check-product-requires : tie.Need-check-product-requires
+check-product-requires c κs = search needs
 
 put-parts-requires : tie.Need-put-parts-requires
 put-parts-requires c κs = search needs
@@ -22,7 +22,7 @@ pub put-product-parts-spec : {M : Type 1} → statement M
 put-product-parts-spec =
     tie.close
     (tie.spec
-    check-size-requires
+    check-product-requires
     put-parts-requires
     put-skip-requires
     same-length

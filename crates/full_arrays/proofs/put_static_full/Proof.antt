@@ -19,8 +19,8 @@ put-elements-requires c κs = search needs
 enum-told : tie.Need-enum-told
 enum-told c = search needs
 
-check-size-requires-2 : tie.Need-check-size-requires-2
-check-size-requires-2 c κs = search needs
+check-product-requires : tie.Need-check-product-requires
+check-product-requires c κs = search needs
 
 put-elements-requires-2 : tie.Need-put-elements-requires-2
 put-elements-requires-2 c κs = search needs
@@ -28,8 +28,8 @@ put-elements-requires-2 c κs = search needs
 enum-told-2 : tie.Need-enum-told-2
 enum-told-2 c = search needs
 
-check-size-requires-3 : tie.Need-check-size-requires-3
-check-size-requires-3 c κs = search needs
+check-size-requires-2 : tie.Need-check-size-requires-2
+check-size-requires-2 c κs = search needs
 
 put-counted-requires : tie.Need-put-counted-requires
 put-counted-requires c κs = search needs
@@ -73,10 +73,10 @@ put-static-full-spec =
     check-size-requires
     put-elements-requires
     enum-told
-    check-size-requires-2
+    check-product-requires
     put-elements-requires-2
     enum-told-2
-    check-size-requires-3
+    check-size-requires-2
     put-counted-requires
     enum-told-3
     put-counted-requires-2

@@ -1,5 +1,5 @@
 use Rattle.array_lines.proofs.Products.{fits-static}
-use Rattle.lite_arrays.proofs.Lite.{by-lite}
+use Rattle.lite_arrays.proofs.Lite.{by-lite, by-unknown}
 use borrow.Author.Needs.{needs}
 use Rattle.lite_arrays.proofs.parse_array_field_lite.Statement.{statement}
 use Rattle.lite_arrays.proofs.parse_array_field_lite.Tie as tie
@@ -38,7 +38,7 @@ same-length-3 : tie.Need-same-length-3
 same-length-3 c = search needs
 
 returns-3 : tie.Need-returns-3
-returns-3 c = search (by-lite, needs)
+returns-3 c = search (by-unknown, needs)
 
 pub parse-array-field-lite-spec : {M : Type 1} → statement M
 parse-array-field-lite-spec =

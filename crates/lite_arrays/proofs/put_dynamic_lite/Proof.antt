@@ -9,8 +9,8 @@ enum-known-array-size c = search needs
 put-zero-requires : tie.Need-put-zero-requires
 put-zero-requires c κs = search needs
 
-put-taken-requires : tie.Need-put-taken-requires
-put-taken-requires c κs = search needs
+put-product-requires : tie.Need-put-product-requires
+put-product-requires c κs = search needs
 
 enum-told : tie.Need-enum-told
 enum-told c = search needs
@@ -18,8 +18,8 @@ enum-told c = search needs
 put-zero-requires-2 : tie.Need-put-zero-requires-2
 put-zero-requires-2 c κs = search needs
 
-put-taken-requires-2 : tie.Need-put-taken-requires-2
-put-taken-requires-2 c κs = search needs
+put-product-requires-2 : tie.Need-put-product-requires-2
+put-product-requires-2 c κs = search needs
 
 enum-told-2 : tie.Need-enum-told-2
 enum-told-2 c = search needs
@@ -72,10 +72,10 @@ put-dynamic-lite-spec =
     (tie.spec
     enum-known-array-size
     put-zero-requires
-    put-taken-requires
+    put-product-requires
     enum-told
     put-zero-requires-2
-    put-taken-requires-2
+    put-product-requires-2
     enum-told-2
     check-size-requires
     put-ragged-or-zero-requires

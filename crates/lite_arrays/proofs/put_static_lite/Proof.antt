@@ -16,8 +16,8 @@ put-taken-requires c κs = search needs
 enum-told : tie.Need-enum-told
 enum-told c = search needs
 
-put-taken-requires-2 : tie.Need-put-taken-requires-2
-put-taken-requires-2 c κs = search needs
+put-product-requires : tie.Need-put-product-requires
+put-product-requires c κs = search needs
 
 enum-told-2 : tie.Need-enum-told-2
 enum-told-2 c = search needs
@@ -72,7 +72,7 @@ put-static-lite-spec =
     mul-total-size
     put-taken-requires
     enum-told
-    put-taken-requires-2
+    put-product-requires
     enum-told-2
     check-size-requires
     put-ragged-requires

@@ -11,8 +11,11 @@ trailing-at-requires c κs = search needs
 raw-at-requires : tie.Need-raw-at-requires
 raw-at-requires c κs = search needs
 
+products-at-requires : tie.Need-products-at-requires
+products-at-requires c κs = search needs
+
 returns : tie.Need-returns
 returns c = search (optional-lines, needs)
 
 pub optional-at-spec : {M : Type 1} → statement M
-optional-at-spec = tie.close (tie.spec trailing-at-requires raw-at-requires returns)
+optional-at-spec = tie.close (tie.spec trailing-at-requires raw-at-requires products-at-requires returns)

@@ -1,0 +1,3 @@
+pub mod Undivided
+pub mod Checks
+pub mod Faring
