@@ -407,23 +407,26 @@ static const char *const no_trailing[] = {
     PADDED PLAIN, PADDED "arrays=lite\n", "raw=padded\n", "products=padded\n", "raw=plain\n" PADDED, "products=plain\n" PADDED,
 };
 
+/* An optional line of the head where it does not belong; `other` is a declaration. */
+#define MISPLACED(line, other) \
+    {"first", line HEAD LAMP}, \
+    {"before target", "endian=little\n" line "target=Lamp\narrays=lite\n" LAMP}, \
+    {"before arrays", "endian=little\ntarget=Lamp\n" line "arrays=lite\n" LAMP}, \
+    {"in place of arrays", "endian=little\ntarget=Lamp\n" line LAMP}, \
+    {"before name", HEAD "decl=packet\n" line "name=Lamp\nparent=-\n"}, \
+    {"before parent", HEAD "decl=packet\nname=Lamp\n" line "parent=-\n"}, \
+    {"behind parent", HEAD LAMP line}, \
+    {"behind bits", HEAD LAMP "bits=0\n" line}, \
+    {"behind another declaration", HEAD other line LAMP}, \
+    {"inside a field", HEAD LAMP "field=body\n" line "if=-\n"}, \
+    {"behind a field", HEAD LAMP "field=body\nif=-\n" line}, \
+    {"before a second declaration", HEAD LAMP line CELL}, \
+    {"in the head and at the end", HEAD line LAMP line}, \
+    {"before no declaration", HEAD line},
+
 static const struct {
     const char *place, *record;
-} no_trailing_places[] = {
-    {"first", PADDED HEAD LAMP},
-    {"before target", "endian=little\n" PADDED "target=Lamp\narrays=lite\n" LAMP},
-    {"before arrays", "endian=little\ntarget=Lamp\n" PADDED "arrays=lite\n" LAMP},
-    {"in place of arrays", "endian=little\ntarget=Lamp\n" PADDED LAMP},
-    {"before name", HEAD "decl=packet\n" PADDED "name=Lamp\nparent=-\n"},
-    {"before parent", HEAD "decl=packet\nname=Lamp\n" PADDED "parent=-\n"},
-    {"behind parent", HEAD LAMP PADDED},
-    {"behind bits", HEAD LAMP "bits=0\n" PADDED},
-    {"inside a field", HEAD LAMP "field=body\n" PADDED "if=-\n"},
-    {"behind a field", HEAD LAMP "field=body\nif=-\n" PADDED},
-    {"before a second declaration", HEAD LAMP PADDED CELL},
-    {"in the head and at the end", HEAD PADDED LAMP PADDED},
-    {"before no declaration", HEAD PADDED},
-};
+} no_trailing_places[] = { MISPLACED(PADDED, CELL) };
 
 /* Behind HEAD and this line, packets of scalars with names as long as it takes: a record of so many bytes. */
 static size_t long_record(char *record, const char *line, size_t length)
@@ -612,22 +615,7 @@ static const char *const no_raw[] = {
 
 static const struct {
     const char *place, *record;
-} no_raw_places[] = {
-    {"first", NUMBERED HEAD LAMP},
-    {"before target", "endian=little\n" NUMBERED "target=Lamp\narrays=lite\n" LAMP},
-    {"before arrays", "endian=little\ntarget=Lamp\n" NUMBERED "arrays=lite\n" LAMP},
-    {"in place of arrays", "endian=little\ntarget=Lamp\n" NUMBERED LAMP},
-    {"before name", HEAD "decl=packet\n" NUMBERED "name=Lamp\nparent=-\n"},
-    {"before parent", HEAD "decl=packet\nname=Lamp\n" NUMBERED "parent=-\n"},
-    {"behind parent", HEAD LAMP NUMBERED},
-    {"behind bits", HEAD LAMP "bits=0\n" NUMBERED},
-    {"behind an enum", HEAD MODE NUMBERED LAMP},
-    {"inside a field", HEAD LAMP "field=body\n" NUMBERED "if=-\n"},
-    {"behind a field", HEAD LAMP "field=body\nif=-\n" NUMBERED},
-    {"before a second declaration", HEAD LAMP NUMBERED CELL},
-    {"in the head and at the end", HEAD NUMBERED LAMP NUMBERED},
-    {"before no declaration", HEAD NUMBERED},
-};
+} no_raw_places[] = { MISPLACED(NUMBERED, MODE) };
 
 static void test_raws(void)
 {
@@ -771,22 +759,7 @@ static const char *const no_products[] = {
 
 static const struct {
     const char *place, *record;
-} no_products_places[] = {
-    {"first", DIVIDE HEAD LAMP},
-    {"before target", "endian=little\n" DIVIDE "target=Lamp\narrays=lite\n" LAMP},
-    {"before arrays", "endian=little\ntarget=Lamp\n" DIVIDE "arrays=lite\n" LAMP},
-    {"in place of arrays", "endian=little\ntarget=Lamp\n" DIVIDE LAMP},
-    {"before name", HEAD "decl=packet\n" DIVIDE "name=Lamp\nparent=-\n"},
-    {"before parent", HEAD "decl=packet\nname=Lamp\n" DIVIDE "parent=-\n"},
-    {"behind parent", HEAD LAMP DIVIDE},
-    {"behind bits", HEAD LAMP "bits=0\n" DIVIDE},
-    {"behind a custom", HEAD BLOB DIVIDE LAMP},
-    {"inside a field", HEAD LAMP "field=body\n" DIVIDE "if=-\n"},
-    {"behind a field", HEAD LAMP "field=body\nif=-\n" DIVIDE},
-    {"before a second declaration", HEAD LAMP DIVIDE CELL},
-    {"in the head and at the end", HEAD DIVIDE LAMP DIVIDE},
-    {"before no declaration", HEAD DIVIDE},
-};
+} no_products_places[] = { MISPLACED(DIVIDE, BLOB) };
 
 static void test_products(void)
 {

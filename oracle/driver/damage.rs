@@ -14,6 +14,35 @@ pub fn damaged(whole: Vec<String>, random: &mut Random) -> Vec<u8> {
     bytes
 }
 
+/// An optional line of the head, and what stands in its place or behind it where it is broken.
+pub struct HeadLine {
+    /// What it begins with, `=` included.
+    pub start: &'static str,
+    pub bad_values: &'static [&'static str],
+    pub bad_starts: &'static [&'static str],
+    /// Its own words, and lines of the head that do not follow it, or do.
+    pub behind: [&'static str; 5],
+}
+
+/// The line becomes one that breaks the form, or stands elsewhere, or twice, or has no newline; or another line of the head
+/// stands behind it.
+pub fn break_head_line(lines: &mut Vec<String>, head_line: &HeadLine, random: &mut Random) {
+    let HeadLine { start, bad_values, bad_starts, behind } = head_line;
+    let place = lines.iter().position(|line| line.starts_with(start)).expect("the line stands there");
+    let line = lines.remove(place);
+    let value = line.trim_start_matches(start);
+    let any = random.below(lines.len() + 1);
+    match random.below(8) {
+        0 | 1 => lines.insert(place, format!("{start}{}", random.pick(bad_values))),
+        2 => lines.insert(place, format!("{}{value}", random.pick(bad_starts))),
+        3 => lines.insert(random.below(place), line),
+        4 => lines.insert(if any == place { lines.len() } else { any }, line),
+        5 => lines.splice(place..place, [line.clone(), line]).for_each(drop),
+        6 => lines.splice(place..place, [line, random.pick(behind).to_string()]).for_each(drop),
+        _ => lines[place].insert_str(0, &line),
+    }
+}
+
 fn damage_lines(lines: &mut Vec<Vec<u8>>, random: &mut Random) {
     if lines.is_empty() {
         return;

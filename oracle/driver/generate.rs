@@ -125,7 +125,7 @@ fn with_trailing(random: &mut Random) -> Vec<u8> {
         names::rename(&mut lines, random);
     }
     if !line.is_empty() && random.once_in(8) {
-        trailing::break_line(&mut lines, random);
+        damage::break_head_line(&mut lines, &trailing::LINE, random);
     }
     if random.once_in(24) {
         return damage::damaged(lines, random);
@@ -151,7 +151,7 @@ fn with_raws(random: &mut Random) -> Vec<u8> {
         names::rename(&mut lines, random);
     }
     if !line.is_empty() && random.once_in(8) {
-        raws::break_line(&mut lines, random);
+        damage::break_head_line(&mut lines, &raws::LINE, random);
     }
     if random.once_in(24) {
         return damage::damaged(lines, random);
@@ -177,7 +177,7 @@ fn with_divides(random: &mut Random) -> Vec<u8> {
         names::rename(&mut lines, random);
     }
     if !line.is_empty() && random.once_in(8) {
-        divides::break_line(&mut lines, random);
+        damage::break_head_line(&mut lines, &divides::LINE, random);
     }
     if random.once_in(24) {
         return damage::damaged(lines, random);

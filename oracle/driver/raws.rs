@@ -1,6 +1,7 @@
 //! Records about the head's line `raw`, by chance: closed enums as bit fields, in arrays and as optional fields, between
 //! all that is no closed enum, with names that read like the variables of the lines; and heads whose line breaks the form.
 
+use crate::damage::HeadLine;
 use crate::random::Random;
 use crate::sketch::{DeclSketch, Sketch};
 
@@ -203,23 +204,10 @@ pub const BAD_STARTS: [&str; 20] = [
     "numbered=", "trailing=", "arrays=", "products=", "bits=", "=", "",
 ];
 
-/// The line becomes one that breaks the form, or stands elsewhere, or twice, or has no newline; or a line `products`
-/// stands behind it or in its place.
-pub fn break_line(lines: &mut Vec<String>, random: &mut Random) {
-    let place = lines.iter().position(|line| line.starts_with("raw=")).expect("the line stands there");
-    let line = lines.remove(place);
-    let value = line.trim_start_matches("raw=");
-    let any = random.below(lines.len() + 1);
-    match random.below(8) {
-        0 | 1 => lines.insert(place, format!("raw={}", random.pick(&BAD_VALUES))),
-        2 => lines.insert(place, format!("{}{value}", random.pick(&BAD_STARTS))),
-        3 => lines.insert(random.below(place), line),
-        4 => lines.insert(if any == place { lines.len() } else { any }, line),
-        5 => lines.splice(place..place, [line.clone(), line]).for_each(drop),
-        6 => {
-            let other = random.pick(&["raw=plain", "raw=numbered", "trailing=plain", "products=divide", ""]);
-            lines.splice(place..place, [line, other.to_string()]).for_each(drop);
-        }
-        _ => lines[place].insert_str(0, &line),
-    }
-}
+/// The line, for `damage::break_head_line`.
+pub const LINE: HeadLine = HeadLine {
+    start: "raw=",
+    bad_values: &BAD_VALUES,
+    bad_starts: &BAD_STARTS,
+    behind: ["raw=plain", "raw=numbered", "trailing=plain", "products=divide", ""],
+};

@@ -1,6 +1,7 @@
 //! Records about the head's line `trailing`, by chance: payloads, bodies and typedefs of unknown size with
 //! arrays behind them, most of these padded; and heads whose line breaks the form.
 
+use crate::damage::HeadLine;
 use crate::random::Random;
 use crate::sketch::{DeclSketch, Sketch};
 
@@ -187,24 +188,10 @@ pub const BAD_STARTS: [&str; 18] = [
     "\ttrailing=", "trail=", "tail=", "padding=", "arrays=", "raw=", "products=", "=", "",
 ];
 
-/// The line becomes one that breaks the form, or stands elsewhere, or twice, or has no newline; or a line `raw` or
-/// `products` stands behind it or in its place.
-pub fn break_line(lines: &mut Vec<String>, random: &mut Random) {
-    let place = lines.iter().position(|line| line.starts_with("trailing=")).expect("the line stands there");
-    let line = lines.remove(place);
-    let value = line.trim_start_matches("trailing=");
-    let any = random.below(lines.len() + 1);
-    match random.below(8) {
-        0 | 1 => lines.insert(place, format!("trailing={}", random.pick(&BAD_VALUES))),
-        2 => lines.insert(place, format!("{}{value}", random.pick(&BAD_STARTS))),
-        3 => lines.insert(random.below(place), line),
-        4 => lines.insert(if any == place { lines.len() } else { any }, line),
-        5 => lines.splice(place..place, [line.clone(), line]).for_each(drop),
-        6 => {
-            let other =
-                random.pick(&["trailing=plain", "trailing=padded", "raw=plain", "products=divide", ""]);
-            lines.splice(place..place, [line, other.to_string()]).for_each(drop);
-        }
-        _ => lines[place].insert_str(0, &line),
-    }
-}
+/// The line, for `damage::break_head_line`.
+pub const LINE: HeadLine = HeadLine {
+    start: "trailing=",
+    bad_values: &BAD_VALUES,
+    bad_starts: &BAD_STARTS,
+    behind: ["trailing=plain", "trailing=padded", "raw=plain", "products=divide", ""],
+};
