@@ -1,7 +1,7 @@
 /*
- * Tests the exported function from C: the marked cases P1 to P13 of document 01, records that are empty, cut or damaged, names that are
- * keywords of C++ (16), lines `bits` (17), the head lines `trailing`, `raw` and `products`, buffers of every relevant size, and the cases
- * of the stored sample, which the judge answered (oracle/README.md, 'Cases').
+ * Tests the exported functions from C: the marked cases P1 to P13 of document 01, records that are empty, cut or damaged, names that are
+ * keywords of C++ (16), lines `bits` (17), the head lines `trailing`, `raw` and `products`, whole files (19), buffers of every relevant
+ * size, and the cases of the stored sample, which the judge answered (oracle/README.md, 'Cases'); lower_all is held to single calls there.
  *   test SAMPLE
  * The last line is 'N passed, M failed'; the exit status is 0 if nothing failed.
  */
@@ -33,8 +33,10 @@ static void expect(int ok, const char *what, ...)
 
 /* ---- a call, in a buffer whose bytes are all marked before it */
 
+typedef uint64_t lowering(const uint8_t *record, size_t record_len, uint8_t *out, size_t out_len);
+
 #define AROUND 64 /* bytes on each side of what is lent */
-static uint8_t memory[AROUND + RUPHWENQO_LINES_ROOM + AROUND];
+static uint8_t memory[AROUND + RUPHWENQO_ALL_ROOM + AROUND];
 static uint8_t *const lines = memory + AROUND;
 
 /* No line has a byte of 128 or more. */
@@ -52,21 +54,34 @@ static int unchanged_but(size_t length)
     return 1;
 }
 
-/* Whether a record, with `room` bytes lent, gets this answer and these lines, and no other byte is changed. */
-static int gives(const uint8_t *record, size_t record_length, size_t room, uint32_t answer, const uint8_t *text, size_t length)
+/* Whether a call on a record, with `room` bytes lent, gets this answer and these lines, and no other byte is changed. */
+static int call_gives(lowering *call, const uint8_t *record, size_t record_length, size_t room, uint32_t answer, const uint8_t *text, size_t length)
 {
     for (size_t i = 0; i < sizeof memory; i++)
         memory[i] = mark(i);
-    uint64_t number = lower(record, record_length, lines, room);
+    uint64_t number = call(record, record_length, lines, room);
     return ruphwenqo_answer(number) == answer && ruphwenqo_length(number) == length && memcmp(lines, text, length) == 0 && unchanged_but(length);
 }
 
-/* The same with each size of buffer: 65,536 bytes, the exact length, one less and none, where 15 is due if there are lines. */
+/* The same with each size of buffer: `most` bytes, the exact length, one less and none, where 15 is due if there are lines. */
+static int call_gives_in_every_room(lowering *call, size_t most, const uint8_t *record, size_t record_length, uint32_t answer, const uint8_t *text,
+                                    size_t length)
+{
+    return call_gives(call, record, record_length, most, answer, text, length)
+        && call_gives(call, record, record_length, length, answer, text, length)
+        && (length == 0
+            || (call_gives(call, record, record_length, length - 1, 15, text, 0) && call_gives(call, record, record_length, 0, 15, text, 0)));
+}
+
+/* Of lower. */
+static int gives(const uint8_t *record, size_t record_length, size_t room, uint32_t answer, const uint8_t *text, size_t length)
+{
+    return call_gives(lower, record, record_length, room, answer, text, length);
+}
+
 static int gives_in_every_room(const uint8_t *record, size_t record_length, uint32_t answer, const uint8_t *text, size_t length)
 {
-    return gives(record, record_length, RUPHWENQO_LINES_ROOM, answer, text, length)
-        && gives(record, record_length, length, answer, text, length)
-        && (length == 0 || (gives(record, record_length, length - 1, 15, text, 0) && gives(record, record_length, 0, 15, text, 0)));
+    return call_gives_in_every_room(lower, RUPHWENQO_LINES_ROOM, record, record_length, answer, text, length);
 }
 
 /* ---- the marked cases of document 01 */
@@ -794,6 +809,127 @@ static void test_products(void)
     expect_answer(HEAD DIVIDE LAMP PAYLOAD COUNT_32 ARRAY("a", "16", "-"), 14, "", "behind a payload,", DIVIDE);
 }
 
+/* ---- whole files: lower_all (document 02, Card 13) */
+
+#define TARGET(name) "// target=" name "\n"
+#define PACKET(name) "decl=packet\nname=" name "\nparent=-\n"
+#define STRUCT(name) "decl=struct\nname=" name "\nparent=-\n"
+#define SKIP CHECK("2") "span.skip(2); // skip reserved fields\n"
+#define WIDE SCALAR("x", "60") SCALAR("y", "12")   /* 12 */
+#define PENDING SCALAR("x", "8") SCALAR("y", "4") /* 10 */
+#define OTHER_KINDS MODE "decl=checksum\nname=Sum\nwidth=8\ndecl=custom\nname=Blob\nwidth=-\n"
+
+static const struct {
+    const char *label, *record;
+    uint32_t answer;
+    const char *whole;
+} files[] = {
+    {"a target without lines", HEAD LAMP, 0, TARGET("Lamp")},
+    {"P1", HEAD LAMP SCALAR("amps", "12") RESERVED("4") PAYLOAD, 0, TARGET("Lamp") P1_RUN "payload_ = span;\nspan.clear();\n"},
+    {"file order, kinds without a section", HEAD OTHER_KINDS STRUCT("S") RESERVED("16") LAMP TYPEDEF("s", "S") PACKET("Last"), 0,
+     TARGET("S") SKIP TARGET("Lamp") "if (!S::Parse(span, &s_)) return false;\n" TARGET("Last")},
+    {"parents and children", HEAD LAMP RESERVED("16") PAYLOAD "decl=packet\nname=Child\nparent=Lamp\n" RESERVED("16"), 0,
+     TARGET("Lamp") SKIP "payload_ = span;\nspan.clear();\n" TARGET("Child") SKIP},
+    {"numbers anew in each", HEAD NUMBERED MODE STRUCT("S") TYPEDEF("a", "Mode") LAMP TYPEDEF("a", "Mode"), 0,
+     TARGET("S") CHECK("1") TESTED("a", "Mode", "0", OCTET) TARGET("Lamp") CHECK("1") TESTED("a", "Mode", "0", OCTET)},
+    {"an empty record", "", 1, ""},
+    {"9 before any target", "endian=little\ntarget=Mode\narrays=lite\n" MODE LAMP WIDE, 9, ""},
+    {"16 before any target", HEAD LAMP WIDE PACKET("int"), 16, ""},
+    {"17 before any target", HEAD LAMP WIDE STRUCT("S") "bits=8\n", 17, ""},
+    {"the first refused target, 12", HEAD LAMP RESERVED("16") PACKET("A") WIDE PACKET("B") PENDING, 12, ""},
+    {"the first refused target, 10", HEAD LAMP RESERVED("16") PACKET("B") PENDING PACKET("A") WIDE, 10, ""},
+    {"a refused type", HEAD STRUCT("S") PENDING LAMP, 10, ""},
+};
+
+/* 64 optional scalars, the first with a name of n bytes, the others of 18, behind a condition's name of 4: with n = 18 8,192 bytes of lines. */
+static size_t put_section(char *record, const char *start, int n)
+{
+    size_t length = (size_t)sprintf(record, "%s", start);
+    for (int i = 0; i < 64; i++)
+        length += (size_t)sprintf(record + length, "field=scalar\nid=%.*s\nwidth=8\nif=cond\nis=1\n", i == 0 ? n : 18, "a_name_of_nineteen_");
+    return length;
+}
+
+static void expect_file(const char *record, size_t length, size_t room, uint32_t answer, size_t whole, const char *what)
+{
+    uint64_t number = lower_all((const uint8_t *)record, length, lines, room);
+    expect(ruphwenqo_answer(number) == answer && ruphwenqo_length(number) == whole, "%s", what);
+}
+
+static void test_files(void)
+{
+    for (size_t i = 0; i < LENGTH(files); i++)
+        expect(call_gives_in_every_room(lower_all, RUPHWENQO_ALL_ROOM, (const uint8_t *)files[i].record, strlen(files[i].record), files[i].answer,
+                                        (const uint8_t *)files[i].whole, strlen(files[i].whole)),
+               "a whole file: %s", files[i].label);
+
+    /* 19: 64 fields of 128 bytes; a byte more; before a later target's refusal, behind the target's own and an earlier one's */
+    static char record[RUPHWENQO_RECORD_MAX + 1];
+    size_t length = put_section(record, HEAD LAMP, 18);
+    expect_file(record, length, RUPHWENQO_ALL_ROOM, 0, 8192 + strlen(TARGET("Lamp")), "a section of 8,192 bytes");
+    length = put_section(record, HEAD LAMP, 19);
+    expect_file(record, length, RUPHWENQO_ALL_ROOM, 19, 0, "a section of 8,193 bytes");
+    expect_file(record, length, 0, 19, 0, "a section of 8,193 bytes, in no room");
+    expect(ruphwenqo_answer(lower((const uint8_t *)record, length, lines, RUPHWENQO_LINES_ROOM)) == 0, "lower has no 19");
+    length += (size_t)sprintf(record + length, "%s", PACKET("B") PENDING);
+    expect_file(record, length, RUPHWENQO_ALL_ROOM, 19, 0, "19 before a later target's 10");
+    length = put_section(record, HEAD PACKET("B") PENDING LAMP, 19);
+    expect_file(record, length, RUPHWENQO_ALL_ROOM, 10, 0, "an earlier target's 10 before 19");
+
+    /* 15: the whole, with its target lines; a later target's refusal comes first */
+    const char *two = HEAD STRUCT("S") RESERVED("16") LAMP RESERVED("16"), *refused = HEAD LAMP RESERVED("16") PACKET("B") PENDING;
+    size_t whole = strlen(TARGET("S") SKIP TARGET("Lamp") SKIP);
+    expect_file(two, strlen(two), whole, 0, whole, "a whole of the exact length");
+    expect_file(two, strlen(two), whole - 1, 15, 0, "a whole of a byte too many");
+    expect_file(refused, strlen(refused), 0, 10, 0, "10 before 15");
+}
+
+/* Single calls for all packets and structs of a record, joined behind `text`: the answer, and the length of the whole. A record that a name
+ * makes too long has no single call: *asked says whether there was one for each. */
+static uint32_t joined_calls(const uint8_t *record, size_t length, uint8_t *text, size_t *whole, int *asked)
+{
+    static const char *const starts[] = {"\ndecl=packet\nname=", "\ndecl=struct\nname="};
+    static uint8_t call[RUPHWENQO_RECORD_MAX + 64];
+    const uint8_t *target = (const uint8_t *)memchr(record, '\n', length) + strlen("\ntarget=");
+    const uint8_t *behind = memchr(target, '\n', length - (size_t)(target - record));
+    size_t front = (size_t)(target - record), rest = length - (size_t)(behind - record), start = strlen(starts[0]);
+    *whole = 0;
+    *asked = 1;
+    for (size_t at = 0; at + start < length; at++) {
+        if (memcmp(record + at, starts[0], start) != 0 && memcmp(record + at, starts[1], start) != 0)
+            continue;
+        const uint8_t *name = record + at + start;
+        size_t size = (size_t)((const uint8_t *)memchr(name, '\n', length - at - start) - name);
+        memcpy(call, record, front);
+        memcpy(call + front, name, size);
+        memcpy(call + front + size, behind, rest);
+        if (front + size + rest > RUPHWENQO_RECORD_MAX) {
+            *asked = 0;
+            return 0;
+        }
+        *whole += (size_t)sprintf((char *)text + *whole, "// target=%.*s\n", (int)size, (const char *)name);
+        uint64_t number = lower(call, front + size + rest, text + *whole, RUPHWENQO_LINES_ROOM);
+        if (ruphwenqo_answer(number) != 0 || ruphwenqo_length(number) > 8192) {
+            *whole = 0;
+            return ruphwenqo_answer(number) != 0 ? ruphwenqo_answer(number) : 19;
+        }
+        *whole += ruphwenqo_length(number);
+    }
+    return 0;
+}
+
+/* A record through lower_all: what lower answers, where that is met before any target, else what single calls give together. */
+static void test_whole(const uint8_t *record, size_t length, uint32_t answer, size_t n)
+{
+    static uint8_t text[RUPHWENQO_ALL_ROOM + RUPHWENQO_LINES_ROOM];
+    size_t whole = 0;
+    int asked = 1;
+    if (answer == 0 || (answer >= 10 && answer <= 14))
+        answer = joined_calls(record, length, text, &whole, &asked);
+    if (asked)
+        expect(call_gives_in_every_room(lower_all, RUPHWENQO_ALL_ROOM, record, length, answer, text, whole), "all targets of case %zu of the sample", n);
+}
+
 /* ---- the stored sample */
 
 /* The number that ends at the byte `stop`; *at goes behind it. Any other text ends the test. */
@@ -824,6 +960,7 @@ static void test_sample(const uint8_t *file, size_t size)
         const uint8_t *record = file + at, *text = record + record_length;
         at += record_length + length;
         expect(gives_in_every_room(record, record_length, (uint32_t)answer, text, length), "case %zu of the sample", n);
+        test_whole(record, record_length, (uint32_t)answer, n);
         if (n < MARKED)
             expect(record_length == strlen(marked[n].record) && memcmp(record, marked[n].record, record_length) == 0,
                    "case %zu of the sample is not %s", n, marked[n].label);
@@ -870,6 +1007,7 @@ int main(int argc, char **argv)
     test_trailing();
     test_raws();
     test_products();
+    test_files();
     test_sample(sample, size);
     free(sample);
     printf("%u passed, %u failed\n", passed, failed);

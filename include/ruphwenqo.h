@@ -1,8 +1,9 @@
 /*
  * lower: from a frame declaration, written as a record, to the lines of its C++ parser.
+ * lower_all: the same for every packet and struct of the record, in one call.
  *
  * Link the static library that `rt staticlib lowering` writes, target/staticlib/liblowering.a. It needs no library but C's, no heap
- * and no start-up code. The function keeps no state, so that several threads may call it at once.
+ * and no start-up code. The functions keep no state, so that several threads may call them at once.
  */
 #ifndef RUPHWENQO_H
 #define RUPHWENQO_H
@@ -17,6 +18,10 @@ extern "C" {
 /* The longest record that is read, and a buffer that holds the lines of every record: none needs more, which is proved. */
 #define RUPHWENQO_RECORD_MAX 16384
 #define RUPHWENQO_LINES_ROOM 65536
+
+/* A buffer that holds what lower_all gives for every record: 32 sections of at most 8,192 bytes, each behind a target line of at most
+ * 43. None needs more, which is proved. */
+#define RUPHWENQO_ALL_ROOM 263520
 
 /*
  * Lowers the record_len bytes at record into the out_len bytes at out.
@@ -52,6 +57,22 @@ extern "C" {
  * The two ranges must not overlap, and must stay as they are during the call. Neither pointer may be null, also where its length is 0.
  */
 uint64_t lower(const uint8_t *record, size_t record_len, uint8_t *out, size_t out_len);
+
+/*
+ * Lowers every packet and struct of the record, whichever of them its head asks for. The number, the buffer and what must hold of the
+ * two ranges are as of lower.
+ *   answer 0       the first `length` bytes of out are the sections of the packets and structs, in file order, joined: a line
+ *                  `// target=NAME`, and behind it the lines that lower gives for that target, which may be none. Enums, checksums and
+ *                  custom fields have no section.
+ *   answer 1 to 9, 16, 17
+ *                  as of lower, in the same order, before any target is lowered. The head's target must be a packet or struct (9).
+ *   answer 10 to 14, 19
+ *                  of the first packet or struct, in file order, that is refused: 10 to 14 as of lower, then
+ *   19  the lines behind its target line have more than 8,192 bytes
+ *   answer 15      no target is refused, and all sections together, with their target lines, are longer than out_len bytes; never
+ *                  with RUPHWENQO_ALL_ROOM bytes. 18 is not used.
+ */
+uint64_t lower_all(const uint8_t *record, size_t record_len, uint8_t *out, size_t out_len);
 
 /* 0, or the number of the refusal. */
 static inline uint32_t ruphwenqo_answer(uint64_t number)

@@ -4,6 +4,7 @@
 //! divisions of Card 8.
 
 use crate::analyzer::{Schema, Scope};
+use crate::ast;
 use crate::backends::{cxx, cxx_padded};
 use crate::divided;
 use crate::numbered;
@@ -33,37 +34,56 @@ pub fn with_any_name(bytes: &[u8]) -> Answer {
 
 /// From refusal 7 on.
 pub fn lines_of(record: &Record) -> Answer {
-    let tables = Tables::new(record);
-    refusals::of_the_sizes(&tables)?;
-
     let file = published::file(record);
-    let scope = Scope::new(&file).expect("refusal 4 lets no name pass twice");
-    let schema = Schema::new(&file);
-    published::assert_equal_tables(&file, &schema, &tables);
-
-    refusals::of_the_target(record, &tables)?;
-    let target = scope.typedef[&record.target];
-    let lines = match record.trailing {
-        None | Some(Trailing::Plain) => cxx::field_parser::lines,
-        Some(Trailing::Padded) => cxx_padded::field_parser::lines,
-    };
-    match lines(&scope, &schema, record.arrays, target) {
-        Ok(code) => Ok(joined(&with_divisions(record, with_numbers(record, code)))),
-        Err(panic) => Err(of_panic(record, panic)),
-    }
+    let passed = Passed::new(record, &file)?;
+    passed.lines(record.find(&record.target).expect("refusal 9 lets only declared targets pass"))
 }
 
-fn with_numbers(record: &Record, plain: Vec<String>) -> Vec<String> {
-    match record.raw {
-        None | Some(Raw::Plain) => plain,
-        Some(Raw::Numbered) => numbered::lines(record, &plain),
-    }
+/// A record past refusals 1 to 9, 16 and 17, with what the published code makes of its file once for all targets.
+pub struct Passed<'a> {
+    record: &'a Record,
+    scope: Scope<'a>,
+    schema: Schema,
 }
 
-fn with_divisions(record: &Record, plain: Vec<String>) -> Vec<String> {
-    match record.products {
-        None | Some(Products::Plain) => plain,
-        Some(Products::Divide) => divided::lines(record, &plain),
+impl<'a> Passed<'a> {
+    /// From refusal 7 on.
+    pub fn new(record: &'a Record, file: &'a ast::File) -> Result<Passed<'a>, Refusal> {
+        let tables = Tables::new(record);
+        refusals::of_the_sizes(&tables)?;
+
+        let scope = Scope::new(file).expect("refusal 4 lets no name pass twice");
+        let schema = Schema::new(file);
+        published::assert_equal_tables(file, &schema, &tables);
+
+        refusals::of_the_target(record, &tables)?;
+        Ok(Passed { record, scope, schema })
+    }
+
+    /// The lines of one of its packets and structs, or a refusal 10 to 14.
+    pub fn lines(&self, target: &Decl) -> Answer {
+        let lines = match self.record.trailing {
+            None | Some(Trailing::Plain) => cxx::field_parser::lines,
+            Some(Trailing::Padded) => cxx_padded::field_parser::lines,
+        };
+        match lines(&self.scope, &self.schema, self.record.arrays, self.scope.typedef[&target.name]) {
+            Ok(code) => Ok(joined(&self.with_divisions(target, self.with_numbers(target, code)))),
+            Err(panic) => Err(of_panic(target, panic)),
+        }
+    }
+
+    fn with_numbers(&self, target: &Decl, plain: Vec<String>) -> Vec<String> {
+        match self.record.raw {
+            None | Some(Raw::Plain) => plain,
+            Some(Raw::Numbered) => numbered::lines(self.record, target, &plain),
+        }
+    }
+
+    fn with_divisions(&self, target: &Decl, plain: Vec<String>) -> Vec<String> {
+        match self.record.products {
+            None | Some(Products::Plain) => plain,
+            Some(Products::Divide) => divided::lines(self.record, target, &plain),
+        }
     }
 }
 
@@ -81,7 +101,7 @@ fn joined(code: &[String]) -> Vec<u8> {
 }
 
 /// Refusals 10 to 14: the panics of the published Rust, known by their messages.
-fn of_panic(record: &Record, panic: Panic) -> Refusal {
+fn of_panic(target: &Decl, panic: Panic) -> Refusal {
     let numbers = [
         ("assertion failed: self.unchecked_code.is_empty()", 10),
         ("assertion failed: self.chunk.is_empty()", 10),
@@ -95,8 +115,7 @@ fn of_panic(record: &Record, panic: Panic) -> Refusal {
     let Some((_, number)) = known else {
         panic!("the published Rust panics with an unknown message: {}", panic.message);
     };
-    let target = record.find(&record.target);
-    let field = target.map_or(&[][..], Decl::fields).get(panic.at);
+    let field = target.fields().get(panic.at);
     let place = field.map_or("the end", |field| field.desc.kind());
     Refusal { number: *number, because: format!("at {place}") }
 }

@@ -6,12 +6,12 @@ use crate::record::{Arrays, Decl, FieldDesc, Record};
 
 /// Only a check compares with a product: the bounds of loops, and the amounts of skips and subranges, do not. Fails loudly
 /// where such a line has another form, or is not one of the target's next array that has one.
-pub fn lines(record: &Record, plain: &[String]) -> Vec<String> {
+pub fn lines(record: &Record, target: &Decl, plain: &[String]) -> Vec<String> {
     let prefix = match record.arrays {
         Arrays::Lite => "",
         Arrays::Full => "output->",
     };
-    let mut arrays = arrays(record).into_iter();
+    let mut arrays = arrays(target).into_iter();
     let divided = |line: &String| {
         let (Some(at), Some(_)) = (line.find(" < "), line.find(" * ")) else {
             return line.clone();
@@ -39,9 +39,8 @@ fn is_number(factor: &str) -> bool {
 }
 
 /// The ids of the target's arrays, in their order.
-fn arrays(record: &Record) -> Vec<&str> {
-    let target = record.find(&record.target).map_or(&[][..], Decl::fields);
-    let ids = target.iter().filter_map(|field| match &field.desc {
+fn arrays(target: &Decl) -> Vec<&str> {
+    let ids = target.fields().iter().filter_map(|field| match &field.desc {
         FieldDesc::Array { id, .. } => Some(&id[..]),
         _ => None,
     });

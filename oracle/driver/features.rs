@@ -10,6 +10,7 @@ use crate::published;
 use crate::record::{
     Arrays, Decl, DeclDesc, Element, Endian, Field, FieldDesc, Products, Raw, Record, Stated, Trailing,
 };
+use crate::sections::{self, Sections, LONGEST};
 use crate::sizes::{unpadded, DeclSizes, Size, Tables};
 use std::collections::BTreeSet;
 
@@ -37,6 +38,39 @@ pub fn features(bytes: &[u8], answer: &Answer) -> BTreeSet<String> {
                 found.extend(misstated(&record));
             }
         }
+    }
+    found
+}
+
+/// What `lower_all` makes of a case, with a buffer of 65,536 bytes.
+pub fn of_all_targets(sections: &Sections) -> BTreeSet<String> {
+    let whole = sections::whole(sections);
+    let length = whole.as_ref().map_or(0, Vec::len);
+    let (number, _) = answer::within(answer::BUFFER, &whole);
+    let all = sections.as_ref().map_or(&[][..], |sections| sections);
+    let has = |length: usize| all.iter().any(|section| section.lines.len() == length);
+    let behind = sections.as_ref().err().and_then(|turned| turned.behind);
+    let notes = [
+        (all.len() == 1, "1 target"),
+        ((2..=4).contains(&all.len()), "2 to 4 targets"),
+        ((5..=16).contains(&all.len()), "5 to 16 targets"),
+        (all.len() > 16, "17 to 32 targets"),
+        (has(0), "a target without lines"),
+        (all.iter().any(|section| section.lines.len() > 8_000), "a section of 8,001 to 8,192 bytes"),
+        (has(LONGEST), "a section of 8,192 bytes"),
+        ((60_000..65_536).contains(&length), "60,000 to 65,535 bytes"),
+        (length == 65_536, "65,536 bytes"),
+        (length == 65_537, "65,537 bytes"),
+        (length > 65_537, "more than 65,537 bytes"),
+    ];
+    let notes = notes.into_iter().filter_map(|(holds, note)| holds.then(|| format!("all targets: {note}")));
+    let mut found: BTreeSet<String> = notes.collect();
+    found.insert(format!("all targets: answer {number:02}"));
+    if behind.is_some() {
+        found.insert(format!(
+            "all targets: answer {number:02} at {}",
+            if behind == Some(0) { "the first" } else { "a later one" }
+        ));
     }
     found
 }
@@ -235,6 +269,7 @@ fn raws(record: &Record, lines: &str) -> Vec<String> {
     let checks = lines.lines().enumerate().filter(|(_, line)| line.starts_with("if (span.size() < "));
     let checks: Vec<usize> = checks.map(|(at, _)| at).collect();
     let between = |pair: &[(usize, &str)]| checks.iter().any(|at| (pair[0].0..pair[1].0).contains(at));
+    let tested = target(record).map_or(0, |target| numbered::tested(record, target).len());
     let is_like_it = |name: &str| {
         name.strip_prefix("raw_value").is_some_and(|rest| rest.bytes().all(|byte| byte.is_ascii_digit()))
     };
@@ -247,7 +282,7 @@ fn raws(record: &Record, lines: &str) -> Vec<String> {
         (declared.windows(2).any(between), "a check between two"),
         (!declared.is_empty() && lines.contains("\n    auto raw_value = "), "raw_value in a block too"),
         (!declared.is_empty() && record.names().iter().any(|(_, name)| is_like_it(name)), "a name like them"),
-        (numbered::tested(record).len() > declared.len(), "a tested field is dropped"),
+        (tested > declared.len(), "a tested field is dropped"),
         (record.trailing == Some(Trailing::Padded), "and trailing padded"),
     ];
     let notes = notes.into_iter().filter_map(|(holds, note)| holds.then(|| format!("{word}: {note}")));

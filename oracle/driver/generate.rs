@@ -6,6 +6,7 @@
 
 use crate::damage;
 use crate::divides;
+use crate::files;
 use crate::names;
 use crate::random::Random;
 use crate::raws;
@@ -36,11 +37,14 @@ pub enum Flavour {
     /// line `raw`, with either word, or with a broken one; also beside a line `trailing`. It stands behind the others too.
     Raws,
     /// Arrays of every shape with large counts, and the others of document 01, under a head without the line `products`,
-    /// with either word, or with a broken one; also beside lines `trailing` and `raw`. It stands last.
+    /// with either word, or with a broken one; also beside lines `trailing` and `raw`. It stands behind the others too.
     Divides,
+    /// Many packets and structs in one file, for `lower_all`: long lines, and targets that are refused; also with lines `bits`.
+    /// It stands last.
+    Files,
 }
 
-pub const FLAVOURS: [(&str, Flavour); 9] = [
+pub const FLAVOURS: [(&str, Flavour); 10] = [
     ("small", Flavour::Small),
     ("mixed", Flavour::Mixed),
     ("damaged", Flavour::Damaged),
@@ -50,6 +54,7 @@ pub const FLAVOURS: [(&str, Flavour); 9] = [
     ("trailing", Flavour::Trailing),
     ("raws", Flavour::Raws),
     ("divides", Flavour::Divides),
+    ("files", Flavour::Files),
 ];
 
 /// The records of a seed, one after the other.
@@ -72,6 +77,7 @@ fn record(flavour: Flavour, random: &mut Random) -> Vec<u8> {
         Flavour::Trailing => with_trailing(random),
         Flavour::Raws => with_raws(random),
         Flavour::Divides => with_divides(random),
+        Flavour::Files => of_a_file(random),
     }
 }
 
@@ -180,6 +186,22 @@ fn with_divides(random: &mut Random) -> Vec<u8> {
         damage::break_head_line(&mut lines, &divides::LINE, random);
     }
     if random.once_in(24) {
+        return damage::damaged(lines, random);
+    }
+    sketch::joined(&lines)
+}
+
+fn of_a_file(random: &mut Random) -> Vec<u8> {
+    let whole = match random.below(16) {
+        0 | 1 => mixed(random),
+        2 => raws::sketch(random),
+        _ => files::sketch(random),
+    };
+    let mut lines = if random.once_in(16) { stated::lines(&whole, random) } else { whole.lines() };
+    if random.once_in(48) {
+        names::rename(&mut lines, random);
+    }
+    if random.once_in(48) {
         return damage::damaged(lines, random);
     }
     sketch::joined(&lines)

@@ -1,7 +1,8 @@
 //! How many cases show each feature.
 
 use crate::answer::Answer;
-use crate::features::features;
+use crate::features::{features, of_all_targets};
+use crate::sections::Sections;
 use std::collections::BTreeMap;
 use std::fmt;
 
@@ -15,6 +16,13 @@ impl Histogram {
     pub fn add(&mut self, record: &[u8], answer: &Answer) {
         self.cases += 1;
         for feature in features(record, answer) {
+            *self.counts.entry(feature).or_default() += 1;
+        }
+    }
+
+    /// What `lower_all` makes of a case that is added.
+    pub fn add_all_targets(&mut self, sections: &Sections) {
+        for feature in of_all_targets(sections) {
             *self.counts.entry(feature).or_default() += 1;
         }
     }

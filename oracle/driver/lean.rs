@@ -10,31 +10,64 @@ use std::str::Split;
 
 /// The lines of a record that answers 0, joined.
 pub fn lines(record: &[u8]) -> Vec<u8> {
-    let mut values = Values::new(record);
-    let little = values.next() == "little";
-    let target = values.next();
-    let arrays = if values.next() == "lite" { Arrays::Lite } else { Arrays::Full };
-
-    let mut file = ast::File::new(0);
-    if !little {
-        file.endianness.value = ast::EndiannessValue::BigEndian;
-    }
-    let mut keys = 0;
-    while let Some(kind) = values.kind() {
-        let key = ast::DeclKey(file.declarations.len());
-        let desc = decl(kind, &mut values, &mut keys);
-        file.declarations.push(ast::Decl { loc: loc(), key, desc });
-    }
-
-    let scope = Scope::new(&file).expect("accepted");
-    let schema = Schema::new(&file);
-    let code = field_parser::accepted_lines(&scope, &schema, arrays, scope.typedef[target]);
+    let read = Read::new(record);
+    let scope = Scope::new(&read.file).expect("accepted");
+    let schema = Schema::new(&read.file);
+    let code = field_parser::accepted_lines(&scope, &schema, read.arrays, scope.typedef[read.target]);
     let mut joined = String::with_capacity(code.iter().map(|line| line.len() + 1).sum());
-    for line in &code {
+    push_lines(&mut joined, &code);
+    joined.into_bytes()
+}
+
+/// The sections of a record all of whose targets are accepted, joined: it is read once.
+pub fn sections(record: &[u8]) -> Vec<u8> {
+    let read = Read::new(record);
+    let scope = Scope::new(&read.file).expect("accepted");
+    let schema = Schema::new(&read.file);
+    let mut joined = String::new();
+    for decl in &read.file.declarations {
+        if let ast::DeclDesc::Packet { id, .. } | ast::DeclDesc::Struct { id, .. } = &decl.desc {
+            joined.push_str("// target=");
+            push_lines(&mut joined, std::slice::from_ref(id));
+            push_lines(&mut joined, &field_parser::accepted_lines(&scope, &schema, read.arrays, decl));
+        }
+    }
+    joined.into_bytes()
+}
+
+fn push_lines(joined: &mut String, lines: &[String]) {
+    for line in lines {
         joined.push_str(line);
         joined.push('\n');
     }
-    joined.into_bytes()
+}
+
+/// A record as the published types.
+struct Read<'a> {
+    target: &'a str,
+    arrays: Arrays,
+    file: ast::File,
+}
+
+impl<'a> Read<'a> {
+    fn new(record: &'a [u8]) -> Read<'a> {
+        let mut values = Values::new(record);
+        let little = values.next() == "little";
+        let target = values.next();
+        let arrays = if values.next() == "lite" { Arrays::Lite } else { Arrays::Full };
+
+        let mut file = ast::File::new(0);
+        if !little {
+            file.endianness.value = ast::EndiannessValue::BigEndian;
+        }
+        let mut keys = 0;
+        while let Some(kind) = values.kind() {
+            let key = ast::DeclKey(file.declarations.len());
+            let desc = decl(kind, &mut values, &mut keys);
+            file.declarations.push(ast::Decl { loc: loc(), key, desc });
+        }
+        Read { target, arrays, file }
+    }
 }
 
 /// The values of the lines that are not yet read.

@@ -21,6 +21,7 @@ mod divided;
 mod divides;
 mod families;
 mod features;
+mod files;
 mod generate;
 mod histogram;
 mod keywords;
@@ -30,6 +31,7 @@ mod marked;
 mod marked_bits;
 mod marked_divides;
 mod marked_raws;
+mod marked_sections;
 mod marked_trailing;
 mod names;
 mod numbered;
@@ -41,22 +43,26 @@ mod random;
 mod raws;
 mod record;
 mod refusals;
+mod sections;
 mod sizes;
 mod sketch;
 mod stated;
 mod timing;
+mod timing_all;
 mod trailing;
 
 use answer::{answer, Answer, BUFFER};
 use cases::Case;
 use generate::{Flavour, FLAVOURS};
 use histogram::Histogram;
+use sections::sections;
 use std::error::Error;
 use std::io::{self, BufWriter, Read, Write};
 use std::process::ExitCode;
 
 const USAGE: &str = "\
 judge answer < RECORD                the lines, or refused=N
+judge all < RECORD                   the sections of all targets, or refused=N
 judge sizes < RECORD                 the tables of sizes, or refused=N
 judge published < RECORD             the same without refusal 16: names that are keywords are printed
 judge record SHORTHAND > RECORD      a record, as in 'little Lamp lite; packet Lamp -: scalar amps 16'
@@ -67,9 +73,11 @@ judge bits > CASES                   the marked cases of refusal 17: sizes, orde
 judge trailing > CASES               the marked cases of the line `trailing`: what counts, order, form and length
 judge raws > CASES                   the marked cases of the line `raw`: the numbers, names, order, form and length
 judge divides > CASES                the marked cases of the line `products`: the checks, order, form and length
+judge sections > CASES               the marked cases of all targets at once: order, lengths and refusals
 judge generate SEED COUNT FLAVOUR > CASES
                                      cases by chance: small, mixed, damaged, sizes, names, stated,
-                                     trailing, raws or divides
+                                     trailing, raws, divides or files
+judge wholes < CASES > CASES         the same records with the answers for all their targets
 judge select EACH < CASES > CASES    those with a feature that fewer than EACH of document 01's
                                      marked cases and those chosen before show
 judge replay < CASES                 whether the stored answers are the judge's
@@ -77,8 +85,9 @@ judge digest < CASES                 one number for the size tables of all cases
 judge histogram < CASES              what the cases show
 judge survey SEED COUNT              the same for COUNT generated cases of each flavour
 judge bench SEED COUNT               nanoseconds for accepted records: COUNT mixed ones, and families
-judge compare SEED COUNT             the port against the judge: all marked cases, and COUNT
-                                     generated ones of each flavour (see oracle/compare)
+judge bench-all                      nanoseconds for all targets at once and one by one, as they grow in number
+judge compare SEED COUNT             the port against the judge, for one target and for all: all marked cases, and
+                                     COUNT generated ones of each flavour (see oracle/compare)
 ";
 
 type Outcome = Result<ExitCode, Box<dyn Error>>;
@@ -89,6 +98,7 @@ fn main() -> Outcome {
     let words: Vec<&str> = arguments.iter().map(String::as_str).collect();
     match words[..] {
         ["answer"] => print_answer(answer),
+        ["all"] => print_answer(|record| sections::whole(&sections(record))),
         ["published"] => print_answer(answer::with_any_name),
         ["record", shorthand] => print_record(shorthand),
         ["words"] => print_words(),
@@ -99,15 +109,18 @@ fn main() -> Outcome {
         ["trailing"] => write_cases(marked_trailing::records()),
         ["raws"] => write_cases(marked_raws::records()),
         ["divides"] => write_cases(marked_divides::records()),
+        ["sections"] => write_cases(marked_sections::records()),
         ["generate", seed, count, flavour] => {
             write_cases(generate::records(named(flavour)?, seed.parse()?, count.parse()?))
         }
         ["select", each] => write_selected(each.parse()?),
+        ["wholes"] => write_wholes(),
         ["replay"] => replay(),
         ["digest"] => print_digest(),
         ["histogram"] => print_histogram(),
         ["survey", seed, count] => survey(seed.parse()?, count.parse()?),
         ["bench", seed, count] => bench(seed.parse()?, count.parse()?),
+        ["bench-all"] => bench_all(),
         #[cfg(port)]
         ["compare", seed, count] => compare_port(seed.parse()?, count.parse()?),
         _ => {
@@ -189,6 +202,16 @@ fn write_selected(each: u64) -> Outcome {
     Ok(ExitCode::SUCCESS)
 }
 
+fn write_wholes() -> Outcome {
+    let mut output = BufWriter::new(io::stdout().lock());
+    for_each_case(|case| {
+        let whole = sections::whole(&sections(&case.record));
+        Case::new(case.record, &whole).write(&mut output)
+    })?;
+    output.flush()?;
+    Ok(ExitCode::SUCCESS)
+}
+
 fn replay() -> Outcome {
     let (mut all, mut wrong) = (0, 0);
     for_each_case(|case| {
@@ -222,6 +245,7 @@ fn print_histogram() -> Outcome {
     let mut histogram = Histogram::default();
     for_each_case(|case| {
         histogram.add(&case.record, &answer(&case.record));
+        histogram.add_all_targets(&sections(&case.record));
         Ok(())
     })?;
     print!("{histogram}");
@@ -233,6 +257,7 @@ fn survey(seed: u64, count: usize) -> Outcome {
     for (_, flavour) in FLAVOURS {
         for record in generate::records(flavour, seed, count) {
             histogram.add(&record, &answer(&record));
+            histogram.add_all_targets(&sections(&record));
         }
     }
     print!("{histogram}");
@@ -241,6 +266,11 @@ fn survey(seed: u64, count: usize) -> Outcome {
 
 fn bench(seed: u64, count: usize) -> Outcome {
     timing::print(seed, count);
+    Ok(ExitCode::SUCCESS)
+}
+
+fn bench_all() -> Outcome {
+    timing_all::print();
     Ok(ExitCode::SUCCESS)
 }
 
@@ -257,18 +287,22 @@ fn compare_port(seed: u64, count: usize) -> Outcome {
         marked_trailing::records(),
         marked_raws::records(),
         marked_divides::records(),
+        marked_sections::records(),
     ];
     let marked = marked::records().into_iter().chain(of_requests.into_iter().flatten());
     for record in marked.chain(generated) {
-        let answer = answer(&record);
-        if let Some(difference) = comparison.difference(&record, &answer) {
+        let (answer, sections) = (answer(&record), sections(&record));
+        let found =
+            [comparison.difference(&record, &answer), comparison.difference_of_all(&record, &sections)];
+        for difference in found.into_iter().flatten() {
             differences += 1;
             if differences <= SHOWN {
                 println!("{difference}\n{}", String::from_utf8_lossy(&record));
             }
         }
         histogram.add(&record, &answer);
+        histogram.add_all_targets(&sections);
     }
-    println!("{histogram}{differences} differ");
+    println!("{histogram}{}{differences} differ", comparison.counts);
     Ok(ExitCode::from(u8::from(differences > 0)))
 }

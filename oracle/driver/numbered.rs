@@ -9,7 +9,7 @@ const REFUSED: [&str; 2] = ["   return false;", "}"];
 
 /// Behind the declaration stand its test and the conversion. Fails loudly where these have another form, or are not
 /// those of the target's next tested enum.
-pub fn lines(record: &Record, plain: &[String]) -> Vec<String> {
+pub fn lines(record: &Record, target: &Decl, plain: &[String]) -> Vec<String> {
     let prefix = match record.arrays {
         Arrays::Lite => "",
         Arrays::Full => "output->",
@@ -17,7 +17,7 @@ pub fn lines(record: &Record, plain: &[String]) -> Vec<String> {
     let mut numbered = plain.to_vec();
     let declarations =
         plain.iter().enumerate().filter_map(|(at, line)| Some((at, line.strip_prefix(DECLARED)?)));
-    let mut fields = tested(record).into_iter();
+    let mut fields = tested(record, target).into_iter();
     for (number, (at, value)) in declarations.enumerate() {
         let (id, type_) = fields.next().expect("a declaration is of a tested enum");
         let block = |raw: &str| {
@@ -40,9 +40,8 @@ pub fn lines(record: &Record, plain: &[String]) -> Vec<String> {
 
 /// The id and type of each of the target's bit fields that is tested, in their order. The last ones have no lines where
 /// their chunk is dropped.
-pub fn tested(record: &Record) -> Vec<(&str, &str)> {
-    let target = record.find(&record.target).map_or(&[][..], Decl::fields);
-    let typedefs = target.iter().filter_map(|field| match (&field.desc, &field.cond) {
+pub fn tested<'a>(record: &Record, target: &'a Decl) -> Vec<(&'a str, &'a str)> {
+    let typedefs = target.fields().iter().filter_map(|field| match (&field.desc, &field.cond) {
         (FieldDesc::Typedef { id, type_ }, None) => Some((&id[..], &type_[..])),
         _ => None,
     });

@@ -218,6 +218,11 @@ impl Record {
         self.decls.iter().find(|decl| decl.name == name)
     }
 
+    /// The packets and structs, in file order: what `lower_all` lowers.
+    pub fn targets(&self) -> impl Iterator<Item = &Decl> {
+        self.decls.iter().filter(|decl| decl.block().is_some())
+    }
+
     /// Every name, used or not, with the key that it stands behind, in the order of the record.
     pub fn names(&self) -> Vec<(&'static str, &str)> {
         let mut names = vec![("target", &self.target[..])];

@@ -12,7 +12,7 @@ const MOST_FIELDS: usize = 64;
 const MOST_BITS: u128 = (1 << 31) - 1;
 
 /// A number of document 01 or 02, and which part of its sentence holds.
-#[derive(Debug)]
+#[derive(Clone, Debug)]
 pub struct Refusal {
     pub number: u8,
     pub because: String,

@@ -50,7 +50,7 @@ impl Times {
     }
 }
 
-fn nanoseconds(run: impl FnOnce() -> usize) -> u64 {
+pub fn nanoseconds(run: impl FnOnce() -> usize) -> u64 {
     let start = Instant::now();
     black_box(run());
     start.elapsed().as_nanos() as u64

@@ -21,7 +21,7 @@ use Rattle.definitions.specs.declared.Found.{Found}
 use Rattle.definitions.specs.declared.DeclRead.{DeclRead}
 use Rattle.lengths.proofs.Booleans.{impossible}
 use Rattle.alike.proofs.Same.{SamePart, SameMaybe, SameFields, SameDeclDesc, SameDecl, SameDeclarations, Stating}
-use Rattle.alike.proofs.Rests.{LeftOut, isOut, start, inside, Rests, same, itself-line, same-line, nothing-out, shorter, left-too}
+use Rattle.alike.proofs.Rests.{LeftOut, isOut, start, inside, Rests, same, same-line, nothing-out, shorter, left-too}
 use Rattle.alike.proofs.Leaves.{key-begins, longer-key, not-out}
 use Rattle.alike.proofs.Lines.{keeps, in-none, Beyond, then-line, then-number, then-name, then-bit, then-maybe-number, then-maybe-name, then-bits}
 use Rattle.alike.proofs.Fields.{ReadFields, fields-as}
@@ -316,9 +316,3 @@ module _ (out : LeftOut) (s t : Text) where
       first (DeclRead.Is d i) h DeclRead.Wrong g k ih z = absurd (k (clear d i h) (decl-clear out s f₁ d i ds z))
       first (DeclRead.Is d i) h (DeclRead.Is e j) g k ih z =
           between d e i j g (k (clear d i h) (decl-clear out s f₁ d i ds z)) ih (fieldsBehind s (d .desc) i) refl z
-
--- two texts that are equal from two places on: what is read there says the same
-pub declarations-moved : (s t : Text) (f₁ f₂ p q : ℕ) (ds : List Declaration) → drop p s ≡ drop q t → declarationsAt s f₁ p ≡ declarationsAre ds
-    → length (drop q t) < f₂ → ReadDeclarations LeftOut.none s t (declarationsAt t f₂ q) ds
-declarations-moved s t f₁ f₂ p q ds e d l =
-    declarations-as LeftOut.none s t f₁ f₂ p q ds d (subst (λ (v : Text). Rests LeftOut.none start (drop p s) v) e (itself-line (drop p s))) l

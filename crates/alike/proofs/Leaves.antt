@@ -37,7 +37,7 @@ differ (k ∷ ks) (l ∷ ls) = pick (eqb k l) (differ ks ls) true
 
 -- ---- the rest behind a byte
 
-rest-behind : (s : Text) (p x : ℕ) (u : Text) → drop p s ≡ x ∷ u → drop (p + 1) s ≡ u
+pub rest-behind : (s : Text) (p x : ℕ) (u : Text) → drop p s ≡ x ∷ u → drop (p + 1) s ≡ u
 rest-behind s p x u e = sym (drop-drop 1 p s) ∙ ap (drop 1) e
 
 part-grows : (s : Text) (from p x : ℕ) (u : Text) → from ≤ p → drop p s ≡ x ∷ u → part s (partOf from (p + 1)) ≡ part s (partOf from p) ++ (x ∷ [])
@@ -74,7 +74,7 @@ module _ (R : ℕ → ℕ → Type 0) where
   NameAs s t (NameRead.Is a p) NameRead.Wrong = ⊥
   NameAs s t (NameRead.Is a p) (NameRead.Is b q) = SamePart s t a b × R p q
 
-found-same : (R : ℕ → ℕ → Type 0) (a b : Found) → FoundAs R a b → isFound a ≡ isFound b
+pub found-same : (R : ℕ → ℕ → Type 0) (a b : Found) → FoundAs R a b → isFound a ≡ isFound b
 found-same R (Found.At p) (Found.At q) h = refl
 found-same R (Found.At p) Found.Nothing h = absurd h
 found-same R Found.Nothing (Found.At q) h = absurd h

@@ -1,6 +1,7 @@
--- Ignored and Plainly are to be read first; the others follow from the statements down. What each holds is said in its first lines.
+-- Ignored, Plainly and Retargeted are to be read first; the others follow from the statements down. What each holds is said in its first lines.
 pub mod Ignored
 pub mod Plainly
+pub mod Retargeted
 pub mod Chosen
 pub mod Same
 pub mod Records
@@ -8,6 +9,9 @@ pub mod Parser
 pub mod Refusals
 pub mod Sizes
 pub mod Names
+pub mod Targets
+pub mod Ids
+pub mod Words
 pub mod Reading
 pub mod Choices
 pub mod Decls

@@ -4,11 +4,12 @@ use mathlib.Core.Path.{_≡_, refl, ap, _∙_}
 use mathlib.Core.List.{List, [], _∷_}
 use mathlib.Core.Bool.{Bool, true, false}
 use Prim.Native.Nat.{ℕ, _+_}
-use Rattle.definitions.specs.Bytes.{Text, text}
+use Rattle.definitions.specs.Bytes.{Text, text, part}
 use Rattle.definitions.specs.Sizes.{Annotated, Entry, Schema, isArray, hasPayloadSize, enumOf, isBitfield}
 use Rattle.definitions.specs.Blocks.{Bit, Chunk}
 use Rattle.definitions.specs.FieldParser.{Setting, FieldParser, Step, go, stop, andThen, new, flushed, checkCode, member, fieldName, isCondOf, isCondFor, kindOf, bitOf, parseBitField, Emit, appends, isArrayField, laterSize, trailingFrom, getTrailingSize, onTrailing, typedefBlock, typedefBySize, parseTypedefField, optionalTypedef, parseOptionalField, payloadName, unsizedPayload, payloadBySize, parsePayloadFieldLite, sizeBits, sizeBacking, elemOf, typeName, arrayOf, parseArrayField, parseOther, isBit, parseUnchecked, emitted, parse, parseAll, Outcome, codeOf, lowerFields}
 use Rattle.definitions.specs.Answer.{settingOf, lowerTarget, lowerIn}
+use Rattle.definitions.specs.All.{Outcomes, withSection, lowerEach}
 use Rattle.definitions.specs.declared.EnumOf.{EnumOf}
 use Rattle.definitions.specs.declared.Part.{Part}
 use Rattle.definitions.specs.declared.MaybePart.{MaybePart}
@@ -26,7 +27,7 @@ use Rattle.lengths.proofs.Booleans.{impossible}
 use Rattle.alike.proofs.Same.{SamePart, SameMaybe, SameDesc, SameCond, SameField, SameFields, SameHead}
 use Rattle.alike.proofs.Names.{same-name, same-payload-id, any-field, SameReference, same-reference, has-payload-size}
 use Rattle.alike.proofs.Sizes.{SameRows, is-array, enum-of, is-bitfield, element-size, array-size, SameAnnotated, SameAnnotateds, SameEntry, SameSchema}
-use Rattle.alike.proofs.Refusals.{is-target}
+use Rattle.alike.proofs.Refusals.{is-frame, is-target}
 
 pub record SameSetting (c d : Setting) : Type 0 where
   pub scope : SameRows (c .source) (d .source) (c .scope) (d .scope)
@@ -348,3 +349,20 @@ same-lowering s t h k head (SameSchema.more {e} {f} {a} {b} g ks) =
     by true false i u v = impossible (cc)
     by false true i u v = impossible (cc)
     by false false i u v = v
+
+-- ---- each target: its section has a name and blocks, which are texts
+
+pub same-each : (s t : Text) (h k : Head) → h .options ≡ k .options → {a b : Schema} → SameSchema s t a b → lowerEach s h a ≡ lowerEach t k b
+unfolding lowerEach
+same-each s t h k o SameSchema.done = refl
+same-each s t h k o (SameSchema.more {e} {f} {a} {b} g ks) =
+    by _ _ (is-frame s t (g .row .decl .desc)) (g .row .decl .id) (same-target s t h k o g) (same-each s t h k o ks)
+  where
+    by : (x y : Bool) → x ≡ y → SamePart s t (e .row .decl .id) (f .row .decl .id) → lowerTarget s h e ≡ lowerTarget t k f
+        → lowerEach s h a ≡ lowerEach t k b
+        → _≡_ {A = Outcomes} (elim x [ true ↦ withSection (part s (e .row .decl .id)) (lowerTarget s h e) (lowerEach s h a) | false ↦ lowerEach s h a ])
+        (elim y [ true ↦ withSection (part t (f .row .decl .id)) (lowerTarget t k f) (lowerEach t k b) | false ↦ lowerEach t k b ])
+    by true true i n u v = cc
+    by true false i n u v = impossible (cc)
+    by false true i n u v = impossible (cc)
+    by false false i n u v = v

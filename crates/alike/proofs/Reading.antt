@@ -11,7 +11,7 @@ use lib.Dec.{ltb, eqb}
 use lib.ListN.{length, drop}
 use borrow.Author.Tests.{ne-eqb, ltb-false, le-ltb}
 use Rattle.definitions.specs.Bytes.{Text, text, pick}
-use Rattle.definitions.specs.Record.{keyOf, keyAt, onFound, onName, onHead, nameLine, onArrays, trailingAt, rawAt, productsAt, optionalAt, headIs, headAt, Declaration, Declarations, declarationsAre, noDeclarations, declarationsAt, RecordRead, recordIs, noRecord, withHead, readRecord}
+use Rattle.definitions.specs.Record.{keyOf, keyAt, onFound, onName, onHead, nameLine, onArrays, trailingAt, rawAt, productsAt, optionalAt, headIs, headAt, Declaration, Declarations, declarationsAre, noDeclarations, declarationsAt, recordIs, noRecord, withHead, readRecord}
 use Rattle.definitions.specs.Answer.{wrongLength}
 use Rattle.definitions.specs.declared.Part.{Part}
 use Rattle.definitions.specs.declared.EndiannessValue.{EndiannessValue}
@@ -124,11 +124,11 @@ in-word f false w v e = ap f e
 -- ---- the head
 
 -- what stands behind `arrays`: the optional lines
-abbrev headEnd : Text → EndiannessValue → Part → Arrays → ℕ → HeadRead
+abbrev pub headEnd : Text → EndiannessValue → Part → Arrays → ℕ → HeadRead
 headEnd s m target arrays i = headIs m target arrays (optionalAt s i)
 
 -- what stands behind its first line
-abbrev headThen : Text → EndiannessValue → ℕ → HeadRead
+abbrev pub headThen : Text → EndiannessValue → ℕ → HeadRead
 headThen s m i = onName (nameLine s i (text "target=")) HeadRead.Wrong λ target q. onArrays s q HeadRead.Wrong (headEnd s m target)
 
 module _ (out : LeftOut) (s t : Text) (n : ℕ) where
@@ -138,7 +138,7 @@ module _ (out : LeftOut) (s t : Text) (n : ℕ) where
   HeadAs (HeadRead.Is h p) HeadRead.Wrong = ⊥
   HeadAs (HeadRead.Is h p) (HeadRead.Is k q) = Declares s p → SameHead s t (headIn out h) k × Beyond out s t n p q
 
-  then-arrays : (p q : ℕ) → Beyond out s t n p q → (f g : Arrays → ℕ → HeadRead)
+  pub then-arrays : (p q : ℕ) → Beyond out s t n p q → (f g : Arrays → ℕ → HeadRead)
       → ((m : Arrays) (i j : ℕ) → Beyond out s t n i j → HeadAs (f m i) (g m j)) → HeadAs (onArrays s p HeadRead.Wrong f) (onArrays t q HeadRead.Wrong g)
   then-arrays p q k f g h = by (k .rests)
     where
@@ -149,7 +149,7 @@ module _ (out : LeftOut) (s t : Text) (n : ℕ) where
           (h Arrays.Lite)
       by (cut e r) = rw (other-key out s p (text "arrays=lite\n") refl e, other-key out s p (text "arrays=full\n") refl e) tt
 
-  end-as : (m : EndiannessValue) (arrays : Arrays) (a b : Part) (p q : ℕ) → SamePart s t a b → Beyond out s t n p q
+  pub end-as : (m : EndiannessValue) (arrays : Arrays) (a b : Part) (p q : ℕ) → SamePart s t a b → Beyond out s t n p q
       → HeadAs (headEnd s m a arrays p) (headEnd t m b arrays q)
   end-as m arrays a b p q e k = rw (optional-read s p, optional-read t q) λ h.
       let g = choices-as out s t n optionals refl (told out) p q k h in (
@@ -190,40 +190,56 @@ abbrev pub ReadAs : Bool → Text → Text → Head → List Declaration → Typ
 ReadAs kept s t h ds =
     (k : Head) × (es : List Declaration) × (readRecord t ≡ recordIs k es) × SameHead s t h k × SameDeclarations s t ds es × Stating kept ds es
 
+-- the record behind a head that is read from both texts
+pub record-behind : (out : LeftOut) (s t : Text) (h k : Head) (i j : ℕ) (ds : List Declaration) → headAt t 0 ≡ HeadRead.Is k j
+    → HeadAs out s t (length t) (HeadRead.Is h i) (HeadRead.Is k j) → declarationsAt s (length s) i ≡ declarationsAre ds
+    → ReadAs (keeps out) s t (headIn out h) ds
+unfolding readRecord
+record-behind out s t h k i j ds g u v =
+    let x : SameHead s t (headIn out h) k × Beyond out s t (length t) i j = u (declarations-here s (length s) i ds v) in
+    let w : ReadDeclarations out s t (declarationsAt t (length t) j) ds =
+    declarations-as out s t (length s) (length t) i j ds v (x .1 .rests) (x .1 .less) in (
+      k,
+      w .declarations,
+      ap (λ (a : HeadRead). onHead a noRecord λ o p. withHead o (declarationsAt t (length t) p)) g ∙ ap (withHead k) (w .read),
+      x .0,
+      w .same,
+      w .stating,
+    )
+
+-- what was read of a record: a head, and declarations behind it
+pub record RecordIs (s : Text) (h : Head) (ds : List Declaration) : Type 0 where
+  pub next : ℕ
+  pub head : headAt s 0 ≡ HeadRead.Is h next
+  pub declarations : declarationsAt s (length s) next ≡ declarationsAre ds
+
+pub record-is : (s : Text) (h : Head) (ds : List Declaration) → readRecord s ≡ recordIs h ds → RecordIs s h ds
+unfolding readRecord
+record-is s h ds e = head (headAt s 0) refl e
+  where
+    rest : (o : Head) (i : ℕ) → headAt s 0 ≡ HeadRead.Is o i → (a : Declarations) → declarationsAt s (length s) i ≡ a → withHead o a ≡ recordIs h ds
+        → RecordIs s h ds
+    rest o i c noDeclarations d z = impossible (cc)
+    rest o i c (declarationsAre zs) d z = record { next = i; head = cc; declarations = cc }
+
+    head : (a : HeadRead) → headAt s 0 ≡ a → onHead a noRecord (λ o p. withHead o (declarationsAt s (length s) p)) ≡ recordIs h ds → RecordIs s h ds
+    head HeadRead.Wrong c z = impossible (cc)
+    head (HeadRead.Is o i) c z = rest o i c (declarationsAt s (length s) i) refl z
+
 -- a record that is read from a text is read from a second one that says the same
 pub record-as : (out : LeftOut) (s t : Text) (h : Head) (ds : List Declaration) → readRecord s ≡ recordIs h ds → Rests out start s t
     → ReadAs (keeps out) s t (headIn out h) ds
-unfolding readRecord
-record-as out s t h ds e r =
-    head (headAt s 0) refl (headAt t 0) refl (λ c. head-as out s t (length t) 0 0 (same-line c r) (omega arith)) e
+record-as out s t h ds e r = by (headAt t 0) refl (subst (λ (a : HeadRead). HeadAs out s t (length t) a (headAt t 0)) (x .head) alike)
   where
-    Result : Type 0
-    Result = ReadAs (keeps out) s t (headIn out h) ds
+    x : RecordIs s h ds
+    x = record-is s h ds e
 
-    then : Text → Head → ℕ → RecordRead
-    then w k p = withHead k (declarationsAt w (length w) p)
+    alike : HeadAs out s t (length t) (headAt s 0) (headAt t 0)
+    alike = head-as out s t (length t) 0 0 (same-line (head-clear out s 0 h (x .next) (x .head)) r) (omega arith)
 
-    rest : (o k : Head) (i j : ℕ) → headAt t 0 ≡ HeadRead.Is k j → HeadAs out s t (length t) (HeadRead.Is o i) (HeadRead.Is k j)
-        → (a : Declarations) → declarationsAt s (length s) i ≡ a → withHead o a ≡ recordIs h ds → Result
-    rest o k i j g u noDeclarations c z = impossible (cc)
-    rest o k i j g u (declarationsAre zs) c z =
-        let v : declarationsAt s (length s) i ≡ declarationsAre ds = cc in
-        let x : SameHead s t (headIn out o) k × Beyond out s t (length t) i j = u (declarations-here s (length s) i ds v) in
-        let w : ReadDeclarations out s t (declarationsAt t (length t) j) ds =
-        declarations-as out s t (length s) (length t) i j ds v (x .1 .rests) (x .1 .less) in (
-          k,
-          w .declarations,
-          ap (λ (a : HeadRead). onHead a noRecord (then t)) g ∙ ap (withHead k) (w .read),
-          subst (λ (y : Head). SameHead s t (headIn out y) k) (let y : o ≡ h = cc in y) (x .0),
-          w .same,
-          w .stating,
-        )
-
-    head : (a : HeadRead) → headAt s 0 ≡ a → (b : HeadRead) → headAt t 0 ≡ b → (isOut out s ≡ false → HeadAs out s t (length t) a b)
-        → onHead a noRecord (then s) ≡ recordIs h ds → Result
-    head HeadRead.Wrong c b g k z = impossible (cc)
-    head (HeadRead.Is o i) c HeadRead.Wrong g k z = absurd (k (head-clear out s 0 o i c))
-    head (HeadRead.Is o i) c (HeadRead.Is x j) g k z = rest o x i j g (k (head-clear out s 0 o i c)) (declarationsAt s (length s) i) refl z
+    by : (b : HeadRead) → headAt t 0 ≡ b → HeadAs out s t (length t) (HeadRead.Is h (x .next)) b → ReadAs (keeps out) s t (headIn out h) ds
+    by HeadRead.Wrong g u = absurd u
+    by (HeadRead.Is k j) g u = record-behind out s t h k (x .next) j ds g u (x .declarations)
 
 pub reads-without : (s : Text) (h : Head) (ds : List Declaration) → readRecord s ≡ recordIs h ds → ReadAs false s (withoutBits s) h ds
 reads-without s h ds e = record-as LeftOut.bits s (withoutBits s) h ds e (bits-sifted s)
@@ -236,7 +252,7 @@ reads-undivided s h ds e = record-as LeftOut.products s (withoutProducts s) h ds
 
 -- ---- the lengths: a text that can be read is not empty, and one without lines is not longer, so refusal 1 is not met
 
-some-byte : (t : Text) (k : Head) (es : List Declaration) → readRecord t ≡ recordIs k es → eqb (length t) 0 ≡ false
+pub some-byte : (t : Text) (k : Head) (es : List Declaration) → readRecord t ≡ recordIs k es → eqb (length t) 0 ≡ false
 unfolding readRecord headAt keyOf
 some-byte [] k es e = impossible (cc)
 some-byte (x ∷ t) k es e = ne-eqb (suc (length t)) 0 λ f. omega arith

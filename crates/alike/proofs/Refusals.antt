@@ -131,7 +131,7 @@ module _ (s t : Text) where
   there : Blind isThere
   there d e k = refl
 
-  is-frame : {d e : DeclDesc} → SameDeclDesc s t d e → isFrame d ≡ isFrame e
+  pub is-frame : {d e : DeclDesc} → SameDeclDesc s t d e → isFrame d ≡ isFrame e
   is-frame SameDeclDesc.checksum = refl
   is-frame SameDeclDesc.custom = refl
   is-frame SameDeclDesc.enum = refl

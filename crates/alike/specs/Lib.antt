@@ -1,2 +1,3 @@
 pub mod Without
 pub mod Chosen
+pub mod Retarget

@@ -16,17 +16,17 @@ use Rattle.definitions.proofs.Opened.{everything}
 -- ---- records
 
 -- the head of P1
-lite : Text
+unfoldable pub lite : Text
 lite = text "endian=little\ntarget=Lamp\narrays=lite\n"
 
 full : Text
 full = text "endian=little\ntarget=Lamp\narrays=full\n"
 
 -- a packet or struct without a parent, before its fields
-packet : String → Text
+unfoldable pub packet : String → Text
 packet name = text "decl=packet\nname=" ++ (text name ++ text "\nparent=-\n")
 
-struct : String → Text
+unfoldable pub struct : String → Text
 struct name = text "decl=struct\nname=" ++ (text name ++ text "\nparent=-\n")
 
 -- P1's head and the packet Lamp
@@ -34,10 +34,10 @@ lamp : Text → Text
 lamp fields = lite ++ (packet "Lamp" ++ fields)
 
 -- the lines of a field without a condition
-plain : String → Text
+unfoldable pub plain : String → Text
 plain lines = text "field=" ++ (text lines ++ text "\nif=-\n")
 
-scalar : String → String → Text
+unfoldable pub scalar : String → String → Text
 scalar id width = text "field=scalar\nid=" ++ (text id ++ (text "\nwidth=" ++ (text width ++ text "\nif=-\n")))
 
 payload : Text
@@ -53,13 +53,13 @@ pub record Case : Type 0 where
   pub given : Text
   pub expected : Lowered
 
-refuses : Text → ℕ → Case
+unfoldable pub refuses : Text → ℕ → Case
 refuses rec n = record { given = rec; expected = record { answered = n; lines = [] } }
 
 prints : Text → String → Case
 prints rec lines = record { given = rec; expected = record { answered = 0; lines = text lines } }
 
-agrees : Lowered → Lowered → Bool
+unfoldable pub agrees : Lowered → Lowered → Bool
 agrees a b = eqb (a .answered) (b .answered) && same (a .lines) (b .lines)
 
 -- with the program's buffer of 65,536 bytes

@@ -7,4 +7,5 @@ pub mod Lines
 pub mod Blocks
 pub mod FieldParser
 pub mod Answer
+pub mod All
 pub mod Tables

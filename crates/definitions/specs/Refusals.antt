@@ -44,6 +44,7 @@ number Refusal.OctetBoundary = 11
 number Refusal.ScalarTooWide = 12
 number Refusal.UnsupportedOptional = 13
 number Refusal.MultipleUnknown = 14
+number Refusal.SectionTooLong = 19
 number Refusal.NoRoom = 15
 
 -- ---- 16: a name of the record is a keyword of C++17 (document 02, Card 6)

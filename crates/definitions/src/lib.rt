@@ -1,6 +1,7 @@
 // The types that the definitions and the code share, by value: those of ast.rs, the sizes of analyzer.rs, what the record's reader finds
 // at a place, and the refusals of documents 01 and 02. What must be believed about the answer stands in specs/, in the order of document 01:
-// Bytes, Record, Sizes, Refusals, Lines, Blocks, FieldParser, Answer. (Keywords: the words of refusal 16. Tables: sizes as numbers of a table.)
+// Bytes, Record, Sizes, Refusals, Lines, Blocks, FieldParser, Answer, and All (document 02, Card 13: `lower_all`). (Keywords: the words of refusal 16.
+// Tables: sizes as numbers of a table.)
 
 // ---- ast.rs: a name is a part of the record and is not copied; what may be absent is an enum of its own
 
@@ -213,8 +214,8 @@ pub enum Reference {
     ElementSize { field_id: Part },
 }
 
-// ---- why a record is turned back: the refusals of document 01, in its order, and of document 02 16, which is tested behind 2, and 17, behind 8. 10 to 14
-// are the panics of cxx.rs
+// ---- why a record is turned back: the refusals of document 01, in its order, and of document 02 16, which is tested behind 2, 17, behind 8, and 19, behind
+// 14 at each target of a file (`lower_all` alone). 10 to 14 are the panics of cxx.rs
 
 pub enum Refusal {
     RecordLength,
@@ -233,6 +234,7 @@ pub enum Refusal {
     ScalarTooWide,
     UnsupportedOptional,
     MultipleUnknown,
+    SectionTooLong,
     NoRoom,
 }
 

@@ -95,10 +95,10 @@ module _ (c : Setting) where
     where
       by : (b : Bool) → EmitFits n (elim b [ true ↦ e | false ↦ refuses Refusal.OctetBoundary ])
       by true = h
-      by false = omega arith
+      by false = refl
 
   trailing-fits : (n : ℕ) (t : MaybeNumber) (f : ℕ → Emit) → ((k : ℕ) → EmitFits n (f k)) → EmitFits n (onTrailing t f)
-  trailing-fits n MaybeNumber.None f h = omega arith
+  trailing-fits n MaybeNumber.None f h = refl
   trailing-fits n (MaybeNumber.Some k) f h = h k
 
   pick-within : (n : ℕ) (b : Bool) (x y : Block) → Within n x → Within n y → Within n (pick b x y)
@@ -275,20 +275,20 @@ module _ (c : Setting) where
   optional-fits : (cond : Part) (v : ℕ) (d : FieldDesc) (padded : MaybeNumber) → Named cond → DescIs Named d
       → EmitFits (share most d + paddedBytes padded) (parseOptionalField c cond v d)
   unfolding parseOptionalField
-  optional-fits cond v (FieldDesc.Checksum of) padded g h = omega arith
-  optional-fits cond v (FieldDesc.Padding size) padded g h = omega arith
-  optional-fits cond v (FieldDesc.Size of width) padded g h = omega arith
-  optional-fits cond v (FieldDesc.Count of width) padded g h = omega arith
-  optional-fits cond v (FieldDesc.ElementSize of width) padded g h = omega arith
-  optional-fits cond v FieldDesc.Body padded g h = omega arith
-  optional-fits cond v (FieldDesc.Payload modifier) padded g h = omega arith
-  optional-fits cond v (FieldDesc.FixedScalar width fixed) padded g h = omega arith
-  optional-fits cond v (FieldDesc.FixedEnum type tag) padded g h = omega arith
-  optional-fits cond v (FieldDesc.Reserved width) padded g h = omega arith
-  optional-fits cond v (FieldDesc.Array id width type modifier size) padded g h = omega arith
+  optional-fits cond v (FieldDesc.Checksum of) padded g h = refl
+  optional-fits cond v (FieldDesc.Padding size) padded g h = refl
+  optional-fits cond v (FieldDesc.Size of width) padded g h = refl
+  optional-fits cond v (FieldDesc.Count of width) padded g h = refl
+  optional-fits cond v (FieldDesc.ElementSize of width) padded g h = refl
+  optional-fits cond v FieldDesc.Body padded g h = refl
+  optional-fits cond v (FieldDesc.Payload modifier) padded g h = refl
+  optional-fits cond v (FieldDesc.FixedScalar width fixed) padded g h = refl
+  optional-fits cond v (FieldDesc.FixedEnum type tag) padded g h = refl
+  optional-fits cond v (FieldDesc.Reserved width) padded g h = refl
+  optional-fits cond v (FieldDesc.Array id width type modifier size) padded g h = refl
   optional-fits cond v (FieldDesc.Scalar id width) padded g h =
       wider (optional-scalar (member c id) (member-short id h) (written c cond) v g (c .options .endianness) width) (omega (arith, plain-most))
-  optional-fits cond v (FieldDesc.Flag id) padded g h = omega arith
+  optional-fits cond v (FieldDesc.Flag id) padded g h = refl
   optional-fits cond v (FieldDesc.Typedef id type) padded g h =
       wider (optional-typedef cond v id type (enumOf (c .source) (c .scope) type) g (h .0) (h .1)) (omega (arith, plain-most))
 

@@ -1,5 +1,5 @@
 -- The lines of an accepted record have at most 65,536 bytes, so a buffer of that many is enough for every record: refusal 15 is never met with it.
--- Read `longest` and `enough` at the end first.
+-- 19, which is a section's of `lower_all`, is never met at all. Read `longest`, `enough` and `never-19` at the end first.
 -- Assumes nothing.
 use mathlib.Core.Bool.{Bool, true, false, _||_}
 use mathlib.Core.List.{List, [], _∷_, _++_}
@@ -7,7 +7,7 @@ use mathlib.Core.Path.{_≡_, refl, subst}
 use Prim.Native.Nat.{ℕ, _+_, _*_, _≤_}
 use native.Mathlib.Nat.{mul-suc}
 use native.Mathlib.Omega.{arith}
-use lib.Dec.{ltb}
+use lib.Dec.{ltb, leb}
 use lib.ListN.{length}
 use borrow.Author.Tests.{ltb-false, le-leb}
 use Rattle.definitions.specs.Bytes.{Text, pick, any}
@@ -17,7 +17,7 @@ use Rattle.definitions.specs.Refusals.{keywordName, tooMany, duplicateName, unk
 use Rattle.definitions.specs.Lines.{render}
 use Rattle.definitions.specs.Blocks.{Block, program}
 use Rattle.definitions.specs.FieldParser.{Outcome, refused, accepted}
-use Rattle.definitions.specs.Answer.{settingOf, lowerTarget, lowerIn, lowerRecord, answerRead, wrongLength, answer, fitted, lowered, lower}
+use Rattle.definitions.specs.Answer.{settingOf, lowerTarget, lowerIn, lowerRecord, answerRead, wrongLength, answer, Lowered, turnedBack, fitted, lowered, lower}
 use Rattle.definitions.specs.declared.MaybeNumber.{MaybeNumber}
 use Rattle.definitions.specs.declared.Head.{Head}
 use Rattle.definitions.specs.declared.Field.{Field}
@@ -28,7 +28,7 @@ use Rattle.definitions.specs.declared.Verdict.{Verdict}
 use Rattle.lengths.specs.Shares.{mostBytes, plainField, bitField, modifierLine, shape, paddedBytes, shareBy, shares, isElementSize, mostOf}
 use Rattle.lengths.proofs.Booleans.{impossible, neither, refuse-next}
 use Rattle.lengths.proofs.Names.{FieldsAre, DeclarationsAre, RecordOk, ShortName, names-short}
-use Rattle.lengths.proofs.Steps.{Not15, OutcomeFits}
+use Rattle.lengths.proofs.Steps.{Own, own-number, OutcomeFits}
 use Rattle.lengths.proofs.Fields.{AllPlain, lower-fits}
 
 -- ---- the shares of up to 64 fields
@@ -89,7 +89,7 @@ module _ (s : Text) (h : Head) where
   abbrev wrong : Declaration → Bool
   wrong d = badDecl (d .decl .desc) || any wrongField (d .fields)
 
-  target-fits : (rows : List Row) (d : Declaration) → FieldsAre (ShortName s) (d .fields) → many d ≡ false → wrong d ≡ false
+  pub target-fits : (rows : List Row) (d : Declaration) → FieldsAre (ShortName s) (d .fields) → many d ≡ false → wrong d ≡ false
       → OutcomeFits mostBytes (lowerTarget s h (annotateDecl s rows d))
   target-fits rows d names few fine =
       outcome (lowerTarget s h (annotateDecl s rows d))
@@ -110,7 +110,7 @@ module _ (s : Text) (h : Head) where
   lower-in-fits : (rows : List Row) (ds : List Declaration) → DeclarationsAre (ShortName s) ds → any many ds ≡ false → any wrong ds ≡ false
       → OutcomeFits mostBytes (lowerIn s h (annotateFrom s rows ds))
   unfolding lowerIn annotateFrom
-  lower-in-fits rows [] names few fine = omega arith
+  lower-in-fits rows [] names few fine = refl
   lower-in-fits rows (d ∷ ds) names few fine =
       let f = neither (many d) (any many ds) few in
       let g = neither (wrong d) (any wrong ds) fine in
@@ -125,25 +125,25 @@ module _ (s : Text) (h : Head) where
   -- ---- refusals 16 and 3 to 9
 
   abbrev VerdictFits : Verdict → Type 0
-  VerdictFits (Verdict.Refuse why) = Not15 why
+  VerdictFits (Verdict.Refuse why) = Own why
   VerdictFits Verdict.Pass = Unit {0}
 
-  refuses-not-15 : (b : Bool) (why : Refusal) (next : Verdict) → Not15 why → VerdictFits next → VerdictFits (refuseIf b why next)
-  refuses-not-15 true why next j k = j
-  refuses-not-15 false why next j k = k
+  refuses-own : (b : Bool) (why : Refusal) (next : Verdict) → Own why → VerdictFits next → VerdictFits (refuseIf b why next)
+  refuses-own true why next j k = j
+  refuses-own false why next j k = k
 
   verdict-fits : (ds : List Declaration) (schema : Schema) → VerdictFits (verdict s h ds schema)
   unfolding verdict
   verdict-fits ds schema =
-      refuses-not-15 (keywordName s h ds) Refusal.Keyword _ (omega arith)
-      (refuses-not-15 (tooMany ds) Refusal.TooMany _ (omega arith)
-      (refuses-not-15 (duplicateName s ds) Refusal.DuplicateName _ (omega arith)
-      (refuses-not-15 (unknownName s ds) Refusal.UnknownName _ (omega arith)
-      (refuses-not-15 (outOfRange ds) Refusal.OutOfRange _ (omega arith)
-      (refuses-not-15 (large schema) Refusal.TooLarge _ (omega arith)
-      (refuses-not-15 (ragged s schema) Refusal.NotWholeBytes _ (omega arith)
-      (refuses-not-15 (misstated schema) Refusal.Misstated _ (omega arith)
-      (refuses-not-15 (noTarget s h schema) Refusal.NoTarget Verdict.Pass (omega arith) tt))))))))
+      refuses-own (keywordName s h ds) Refusal.Keyword _ refl
+      (refuses-own (tooMany ds) Refusal.TooMany _ refl
+      (refuses-own (duplicateName s ds) Refusal.DuplicateName _ refl
+      (refuses-own (unknownName s ds) Refusal.UnknownName _ refl
+      (refuses-own (outOfRange ds) Refusal.OutOfRange _ refl
+      (refuses-own (large schema) Refusal.TooLarge _ refl
+      (refuses-own (ragged s schema) Refusal.NotWholeBytes _ refl
+      (refuses-own (misstated schema) Refusal.Misstated _ refl
+      (refuses-own (noTarget s h schema) Refusal.NoTarget Verdict.Pass refl tt))))))))
 
   passes : (ds : List Declaration) (schema : Schema) → verdict s h ds schema ≡ Verdict.Pass → (tooMany ds ≡ false) × (outOfRange ds ≡ false)
   unfolding verdict
@@ -168,17 +168,17 @@ module _ (s : Text) (h : Head) where
 
 -- ---- the answer
 
--- an accepted record has lines of at most so many bytes, and no other record is turned back by 15
+-- an accepted record has lines of at most so many bytes, and any other is turned back neither by 15 nor by 19
 pub fits : (s : Text) → OutcomeFits mostBytes (answer s)
 unfolding answer
 fits s = by (wrongLength s)
   where
     read : (r : RecordRead) → RecordOk (ShortName s) r → OutcomeFits mostBytes (answerRead s r)
-    read noRecord k = omega arith
+    read noRecord k = refl
     read (recordIs h ds) k = record-fits s h ds k
 
     by : (b : Bool) → OutcomeFits mostBytes (elim b [ true ↦ refused Refusal.RecordLength | false ↦ answerRead s (readRecord s) ])
-    by true = omega arith
+    by true = refl
     by false = read (readRecord s) (names-short s)
 
 pub longest : (s : Text) (bs : List Block) → answer s ≡ accepted bs → length (render (program bs)) ≤ mostBytes
@@ -190,5 +190,19 @@ unfolding lowered fitted
 enough s room h = by (answer s) (fits s)
   where
     by : (o : Outcome) → OutcomeFits mostBytes o → lowered room o .answered ≡ 15 → ⊥
-    by (refused why) k = k
+    by (refused why) k = own-number why k .0
     by (accepted bs) k = rw (fitted, le-leb (length (render (program bs))) room (omega (arith, h, k))) (omega arith)
+
+-- 19 is never answered, whatever the buffer: `lower` has no sections
+pub never-19 : (s : Text) (room : ℕ) → lower s room .answered ≡ 19 → ⊥
+unfolding lowered fitted
+never-19 s room = by (answer s) (fits s)
+  where
+    fit : (t : Text) (b : Bool)
+        → (elim b as (λ _. Lowered) [ true ↦ record { answered = 0; lines = t } | false ↦ turnedBack Refusal.NoRoom ]) .answered ≡ 19 → ⊥
+    fit t true = omega arith
+    fit t false = omega arith
+
+    by : (o : Outcome) → OutcomeFits mostBytes o → lowered room o .answered ≡ 19 → ⊥
+    by (refused why) k = own-number why k .1
+    by (accepted bs) k = fit (render (program bs)) (leb (length (render (program bs))) room)

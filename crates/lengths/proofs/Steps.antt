@@ -1,13 +1,14 @@
--- The parser's steps: what it has emitted, holds pending and has in its open chunk is within the shares of the fields so far. No refusal is 15.
+-- The parser's steps: what it has emitted, holds pending and has in its open chunk is within the shares of the fields so far. No refusal
+-- is 15 or 19.
 -- Assumes nothing.
-use mathlib.Core.Bool.{Bool, true, false}
+use mathlib.Core.Bool.{Bool, true, false, _||_}
 use mathlib.Core.List.{List, [], _∷_, _++_}
 use mathlib.Core.Path.{_≡_, refl, sym, subst}
 use Prim.Native.Nat.{ℕ, suc, _+_, _*_, _%_, _≤_, _<_}
 use native.Mathlib.Omega.{arith}
 use lib.Dec.{ltb, eqb}
 use lib.ListN.{length, length-append}
-use borrow.Author.Tests.{ltb-false}
+use borrow.Author.Tests.{ltb-false, eqb-false}
 use Rattle.definitions.specs.Sizes.{Annotated, staticWidth}
 use Rattle.definitions.specs.Refusals.{number}
 use Rattle.definitions.specs.Lines.{render}
@@ -16,6 +17,7 @@ use Rattle.definitions.specs.FieldParser.{Setting, FieldParser, Step, go, stop,
 use Rattle.definitions.specs.declared.Refusal.{Refusal}
 use Rattle.definitions.proofs.Raws.{raws-most}
 use Rattle.lengths.specs.Shares.{bitField}
+use Rattle.lengths.proofs.Booleans.{neither}
 use Rattle.lengths.proofs.Others.{Within}
 use Rattle.lengths.proofs.Runs.{KindShort, BitShort, AllShort, ChunkShort, ChunksShort, bitsIn, checked-short}
 
@@ -39,9 +41,15 @@ wider w h = record { before = λ l. omega (arith, w .before l, h) }
 
 -- ---- the parser's state
 
--- no refusal is 15
-abbrev pub Not15 : Refusal → Type 0
-Not15 why = number why ≡ 15 → ⊥
+-- a refusal of the record's own: none that an output buffer (15) or a section (19) brings
+abbrev pub Own : Refusal → Type 0
+Own why = (eqb (number why) 15 || eqb (number why) 19) ≡ false
+
+-- its number is neither
+pub own-number : (why : Refusal) → Own why → (number why ≡ 15 → ⊥) × (number why ≡ 19 → ⊥)
+own-number why k =
+    let b = neither (eqb (number why) 15) (eqb (number why) 19) k in
+    (eqb-false (number why) 15 (b .0), eqb-false (number why) 19 (b .1))
 
 -- within n bytes, with m fields to come
 pub record Holds (n m : ℕ) (p : FieldParser) : Type 0 where
@@ -55,16 +63,16 @@ pub record Holds (n m : ℕ) (p : FieldParser) : Type 0 where
 
 abbrev pub StepFits : ℕ → ℕ → Step → Type 0
 StepFits n m (go p) = Holds n m p
-StepFits n m (stop why) = Not15 why
+StepFits n m (stop why) = Own why
 
 abbrev pub OutcomeFits : ℕ → Outcome → Type 0
-OutcomeFits n (refused why) = Not15 why
+OutcomeFits n (refused why) = Own why
 OutcomeFits n (accepted bs) = length (render (program bs)) ≤ n
 
 abbrev pub EmitFits : ℕ → Emit → Type 0
 EmitFits n (appends b) = Within n b
 EmitFits n silent = Unit {0}
-EmitFits n (refuses why) = Not15 why
+EmitFits n (refuses why) = Own why
 
 pub then-fits : (m n i j : ℕ) (s : Step) (f : FieldParser → Step) → StepFits m i s → ((q : FieldParser) → Holds m i q → StepFits n j (f q))
     → StepFits n j (andThen s f)
@@ -123,7 +131,7 @@ check-fits c n i p g = by (p .uncheckedCode) refl (p .chunk)
           width = g .width;
           raws = g .raws;
         }
-    by (d ∷ ds) e (b ∷ bs) = omega arith
+    by (d ∷ ds) e (b ∷ bs) = refl
 
 -- ---- bit fields
 
@@ -175,7 +183,7 @@ bit-fits c n i p a k g = boundary (eqb (now % 8) 0)
     closed = record { nr = p .chunkNr; rawNr = p .rawNr; fields = grown }
 
     close : (b : Bool) → ltb 64 now ≡ b → StepFits (n + bitField) i (elim b [ true ↦ stop Refusal.ScalarTooWide | false ↦ go (closeChunk p now grown) ])
-    close true e = omega arith
+    close true e = refl
     close false e = record {
       used = g .used;
       code = g .code;

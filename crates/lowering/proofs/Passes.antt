@@ -1,5 +1,5 @@
--- The two passes over the target's plan: what the first one says of the lines' length, and what the second one leaves, comes to the answer for what the
--- plan tells; and that is the answer for the outcome of the target's fields.
+-- The two passes over the target's plan, or over all targets: what the first one says of the lines' length, and what the second one leaves, comes to the
+-- answer for what is told; and that is the answer for the outcome of the target's fields, or of all targets.
 -- Assumes nothing.
 use Prim.Native.Nat.{ℕ, _*_, _^_, _≤_, _<_}
 use mathlib.Core.List.{List, [], _++_}
@@ -13,16 +13,19 @@ use Rattle.definitions.specs.Bytes.{Text}
 use Rattle.definitions.specs.Refusals.{number}
 use Rattle.definitions.specs.Lines.{render}
 use Rattle.definitions.specs.Blocks.{program}
-use Rattle.definitions.specs.Sizes.{Annotated, annotateFields}
-use Rattle.definitions.specs.FieldParser.{Setting, Outcome, refused, accepted, checkCode, parseAll, lowerFields}
+use Rattle.definitions.specs.Sizes.{Schema, Annotated, annotateFields}
+use Rattle.definitions.specs.FieldParser.{Setting, Outcome, refused, accepted, checkCode, sizeBacking, parseAll, lowerFields}
 use Rattle.definitions.specs.Answer.{turnedBack, lowered, fitted}
+use Rattle.definitions.specs.Answer.{Lowered as Answered}
+use Rattle.definitions.specs.All.{Outcomes, refusedAll, acceptedAll, sectionsText, lowerEach, loweredAll}
+use Rattle.definitions.specs.declared.Head.{Head}
 use Rattle.definitions.specs.declared.Options.{Options}
 use Rattle.definitions.specs.declared.Part.{Part}
 use Rattle.definitions.specs.declared.Refusal.{Refusal}
 use Rattle.definitions.specs.declared.Verdict.{Verdict}
 use Rattle.text.specs.Put.{Put}
 use Rattle.stream.specs.Stream.{rendered, fresh}
-use Rattle.tables.specs.Tables.{fieldsFrom, Tables}
+use Rattle.tables.specs.Tables.{fieldsFrom, Tables, fieldsOf}
 use Rattle.emits.specs.Target.{settingAt, restAt, Fine}
 use Rattle.plans.specs.Planned.{Planned}
 use Rattle.plans.specs.Told.{Told, tell, resultBy, resultOf}
@@ -33,14 +36,20 @@ use Rattle.planner.specs.Entries.{Entries}
 use Rattle.planner.proofs.Stands.{is-plan}
 use Rattle.parser.specs.Driver.{TellsBy, Tells}
 use Rattle.parser.specs.declared.Lowered.{Lowered}
-use Rattle.lowering.specs.Steps.{Answers, loweredBy, AnswersTold}
+use Rattle.targets.specs.Told.{tellEach, renderedAll}
+use Rattle.targets.proofs.Agree.{each-told}
+use Rattle.lowering.specs.Steps.{Gives, Answers, loweredBy, AnswersTold}
 
 -- a refusal: no byte is changed
 pub refuses-all : (why : Refusal) (out : Text) {r : ℕ} → r ≡ number why * 2 ^ 32 → Answers (refused why) out r out
 unfolding lowered
 refuses-all why out e = record { number-is = omega (arith, e); buffer-is = refl }
 
--- ---- what the plan tells, by the first pass, into a buffer of no consequence
+pub refuses-each : (why : Refusal) (out : Text) {r : ℕ} → r ≡ number why * 2 ^ 32 → Gives (loweredAll (length out) (refusedAll why)) out r out
+unfolding loweredAll
+refuses-each why out e = record { number-is = omega (arith, e); buffer-is = refl }
+
+-- ---- what is told, by the first pass, into a buffer of no consequence
 
 module _ (d : Told) {buf left : Text} {l : Lowered} (st : Tells d buf 0 l left) where
   pub pass-refused : {why : Refusal} → l .verdict ≡ Verdict.Refuse why → {out : Text} {r : ℕ} → r ≡ number why * 2 ^ 32 → AnswersTold d out r out
@@ -95,15 +104,35 @@ told-answers o d e {out} {left} {r} a = record {
   buffer-is = rw (told-lowered (length out) o (d .verdict) (d .lines) e) (a .buffer-is);
 }
 
+-- ---- the outcome of all targets
+
+each-lowered : (room : ℕ) (o : Outcomes) (v : Verdict) (t : Text) → renderedAll o ≡ resultBy v t → loweredAll room o ≡ loweredBy room v t
+unfolding loweredAll
+each-lowered room (refusedAll w) (Verdict.Refuse why) t e = let q : w ≡ why = cc in ap turnedBack q
+each-lowered room (refusedAll w) Verdict.Pass t e = absurd (let z : _≡_ {A = ℕ} 0 1 = cc in omega arith)
+each-lowered room (acceptedAll xs) (Verdict.Refuse why) t e = absurd (let z : _≡_ {A = ℕ} 0 1 = cc in omega arith)
+each-lowered room (acceptedAll xs) Verdict.Pass t e = let q : sectionsText xs ≡ t = cc in ap (fitted room) q
+
+pub each-answers : (s : Text) (h : Head) (es : Schema) {out left : Text} {r : ℕ} → AnswersTold (tellEach s (h .options) es) out r left
+    → Gives (loweredAll (length out) (lowerEach s h es)) out r left
+each-answers s h es {out} {left} {r} a =
+    subst (λ (l : Answered). Gives l out r left)
+    (sym (each-lowered (length out) (lowerEach s h es) (tellEach s (h .options) es .verdict) (tellEach s (h .options) es .lines) (each-told s h es))) a
+
+-- ---- the plan of the target
+
 module _ (t : Tables) (i n : ℕ) (o : Options) where
   pub plan-answers : Fine t i n → {plan : List PlanAt} → Entries t i n o plan → {out left : Text} {r : ℕ}
       → ((bits : Part → ℕ) → AnswersTold (tell o fresh (plansFrom o (t .source) bits plan 0 n)) out r left)
       → Answers (lowerFields (settingAt t i n o) (restAt t i n 0)) out r left
   plan-answers fine {plan} entries a =
-      told-answers (lowerFields (settingAt t i n o) (restAt t i n 0)) _
+      told-answers (lowerFields (settingAt t i n o) (restAt t i n 0)) (tell o fresh (plansFrom o (t .source) backing plan 0 n))
       (told (settingAt t i n o) (restAt t i n 0)
       ∙ ap (λ (ps : List Planned). resultOf (tell o fresh ps)) (sym (is-plan fine entries .stands)))
-      (a _)
+      (a backing)
+    where
+      backing : Part → ℕ
+      backing id = sizeBacking (t .source) id (fieldsOf t i n)
 
 -- a target without fields
 no-fields : (t : Tables) (i : ℕ) → restAt t i 0 0 ≡ []

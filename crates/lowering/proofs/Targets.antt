@@ -1,25 +1,26 @@
--- Behind refusals 7, 8, 17 and 9: the target stands in the tables at the index that `check_sizes` gives, its fields are behind refusal 7, and lowering them is
--- lowering the record.
+-- Behind refusals 7, 8, 17 and 9: the target stands in the tables at the index that `check_sizes` gives, the fields of each declaration are behind refusal 7,
+-- and lowering those of the target, or of every packet and struct, is lowering the record.
 -- Assumes nothing.
-use Prim.Native.Nat.{ℕ, zero, suc, _+_, _*_, _-_, _^_, _<_}
+use Prim.Native.Nat.{ℕ, zero, suc, _+_, _*_, _^_, _≤_, _<_}
 use mathlib.Core.Bool.{Bool, true, false, _&&_, _||_}
 use mathlib.Core.List.{List}
 use mathlib.Core.Path.{_≡_, refl, sym, ap, _∙_, subst}
-use native.Mathlib.Nat.{add-zero, sub-zero}
 use native.Mathlib.Omega.{arith}
+use lib.ListN.{length}
 use Rattle.definitions.specs.Bytes.{Text, any}
 use Rattle.definitions.specs.Record.{onFound}
-use Rattle.definitions.specs.Sizes.{Schema, Entry, Annotated, sameName, annotateFields, newSchema}
+use Rattle.definitions.specs.Sizes.{Schema, Entry, Annotated, sameName, newSchema}
 use Rattle.definitions.specs.Refusals.{number, tooLarge, largeField, largeRow, largeEntry, staticSum, large, ragged, misstated, isFrame}
 use Rattle.definitions.specs.Tables.{encode}
 use Rattle.definitions.specs.FieldParser.{Outcome, refused, lowerFields}
 use Rattle.definitions.specs.Answer.{lowerTarget, lowerIn}
+use Rattle.definitions.specs.All.{Outcomes, refusedAll, lowerEach, loweredAll}
 use Rattle.definitions.specs.declared.Found.{Found}
 use Rattle.definitions.specs.declared.Head.{Head}
 use Rattle.definitions.specs.declared.Part.{Part}
 use Rattle.definitions.specs.declared.Refusal.{Refusal}
 use Rattle.bits.proofs.Booleans.{or-left, or-right}
-use Rattle.tables.specs.Tables.{fieldsFrom, countHere, declarationsFrom, Tables, tablesOf, rowsOf, fieldsOf}
+use Rattle.tables.specs.Tables.{countHere, declarationsFrom, Tables, tablesOf}
 use Rattle.tables.proofs.Sized.{count-sized}
 use Rattle.schema.specs.Entries.{entryIn, entriesFrom, entrySizes, nextEntry, putRow, sizedRows}
 use Rattle.schema.specs.declared.RowSizes.{RowSizes}
@@ -28,8 +29,11 @@ use Rattle.sizes.specs.declared.Sizing.{Sizing}
 use Rattle.sizes.proofs.Targets.{lower-target}
 use Rattle.sizes.proofs.Fine.{entry-fine}
 use Rattle.emits.specs.Target.{settingAt, restAt, Fine}
-use Rattle.lowering.specs.Steps.{Answers, Few, lowerSized}
-use Rattle.lowering.proofs.Passes.{refuses-all}
+use Rattle.targets.specs.Told.{tellEach, AllFine}
+use Rattle.targets.proofs.Sections.{rest-all}
+use Rattle.lowering.specs.Steps.{Gives, Answers, AnswersTold, Few, lowerSized, allSized, sizedFor}
+use Rattle.lowering.specs.declared.Wanted.{Wanted}
+use Rattle.lowering.proofs.Passes.{refuses-all, refuses-each, each-answers}
 
 -- ---- what `check_sizes` answers
 
@@ -75,6 +79,14 @@ sized-target : (s : Text) (h : Head) (schema : Schema) (i : ℕ) → checkSizes 
 unfolding lowerSized
 sized-target s h schema i e = rw (e, lowerSized)
 
+all-refused : (s : Text) (h : Head) (schema : Schema) (why : Refusal) → checkSizes s h schema ≡ Sizing.Refuse why → allSized s h schema ≡ refusedAll why
+unfolding allSized
+all-refused s h schema why e = rw (e, allSized)
+
+all-target : (s : Text) (h : Head) (schema : Schema) (i : ℕ) → checkSizes s h schema ≡ Sizing.Target i → allSized s h schema ≡ lowerEach s h schema
+unfolding allSized
+all-target s h schema i e = rw (e, allSized)
+
 -- the numbers of fields stay as they were
 count-left : (s rows v f : List ℕ) (j m i : ℕ) → countHere (sizedRows s rows v f j m) i ≡ countHere rows i
 unfolding sizedRows
@@ -101,9 +113,18 @@ module _ (s : Text) (h : Head) (before v f : List ℕ) (n : ℕ) (rows : List �
   abbrev schema : Schema
   schema = newSchema s (declarationsFrom before v f 0 n)
 
-  pub check-refused : {why : Refusal} → x ≡ Sizing.Refuse why → {out : Text} {r : ℕ} → r ≡ number why * 2 ^ 32 → Answers (lowerSized s h schema) out r out
-  check-refused {why} hx {out} {r} e =
-      subst (λ (o : Outcome). Answers o out r out) (sym (sized-refused s h schema why (sym (k .answer) ∙ hx))) (refuses-all why out e)
+  pub check-refused : (wanted : Wanted) → {why : Refusal} → x ≡ Sizing.Refuse why → {out : Text} {r : ℕ} → r ≡ number why * 2 ^ 32
+      → Gives (sizedFor wanted (length out) s h schema) out r out
+  unfolding sizedFor
+  check-refused wanted {why} hx {out} {r} e = by wanted
+    where
+      turned : checkSizes s h schema ≡ Sizing.Refuse why
+      turned = sym (k .answer) ∙ hx
+
+      by : (w : Wanted) → Gives (sizedFor w (length out) s h schema) out r out
+      by Wanted.Target = subst (λ (o : Outcome). Answers o out r out) (sym (sized-refused s h schema why turned)) (refuses-all why out e)
+      by Wanted.All =
+          subst (λ (o : Outcomes). Gives (loweredAll (length out) o) out r out) (sym (all-refused s h schema why turned)) (refuses-each why out e)
 
   module _ {i : ℕ} (hx : x ≡ Sizing.Target i) where
     is-chosen : (large schema ≡ false) × (targetFrom s (h .target) 0 schema ≡ Found.At i)
@@ -118,44 +139,61 @@ module _ (s : Text) (h : Head) (before v f : List ℕ) (n : ℕ) (rows : List �
     target-within : i < n
     target-within = omega (arith, within s (h .target) rows v f 0 n i found)
 
-    abbrev entry : Entry
-    entry = entryIn s rows v f i
+    -- ---- each declaration is behind 3 and 7
+
+    module _ (few : Few before n) where
+      fine-at : (j : ℕ) → j < n → Fine tables j (countHere rows j)
+      fine-at j w = record {
+        few = omega (arith, few .fields j w, ap (λ (l : List ℕ). countHere l j) (k .left), count-left s before v f 0 n j);
+        sizes =
+            ap (any largeField) (rest-all tables j)
+            ∙ or-left (any largeField (entry .fields)) (largeRow (entry .row))
+            (or-left (any largeField (entry .fields) || largeRow (entry .row)) (tooLarge (staticSum (entry .fields))) not-large);
+        sum =
+            ap (λ (xs : List Annotated). tooLarge (staticSum xs)) (rest-all tables j)
+            ∙ or-right (any largeField (entry .fields) || largeRow (entry .row)) (tooLarge (staticSum (entry .fields))) not-large;
+      }
+        where
+          entry : Entry
+          entry = entryIn s rows v f j
+
+          not-large : largeEntry entry ≡ false
+          not-large = entry-fine s rows v f n j w (ap large same ∙ is-chosen .0)
+
+      pub target-fine : {m : ℕ} → m ≡ countHere rows i → Fine tables i m
+      target-fine e = subst (λ (m : ℕ). Fine tables i m) (sym e) (fine-at i target-within)
+
+      pub all-fine : length s ≤ 16384 → AllFine tables n
+      all-fine short = record { short = short; few = few .declarations; fine = fine-at }
+
+    -- ---- the target's lines, or all sections, are the record's
 
     abbrev count : ℕ
     count = countHere rows i
 
-    -- `restAt` from the first field on
-    rest-all : restAt tables i count 0 ≡ entry .fields
-    rest-all =
-        ap (λ (j : ℕ). annotateFields s (rowsOf tables i) (fieldsOf tables i count) (fieldsFrom v f j (count - 0))) (add-zero (i * 64))
-        ∙ ap (λ (m : ℕ). annotateFields s (rowsOf tables i) (fieldsOf tables i count) (fieldsFrom v f (i * 64) m)) (sub-zero count)
-
-    not-large : largeEntry entry ≡ false
-    not-large = entry-fine s rows v f n i target-within (ap large same ∙ is-chosen .0)
-
-    pub target-fine : Few before n → {m : ℕ} → m ≡ count → Fine tables i m
-    target-fine few e = subst (λ (m : ℕ). Fine tables i m) (sym e) (record {
-      few = omega (arith, few .fields i target-within, ap (λ (l : List ℕ). countHere l i) (k .left), count-left s before v f 0 n i);
-      sizes =
-          ap (any largeField) rest-all
-          ∙ or-left (any largeField (entry .fields)) (largeRow (entry .row))
-          (or-left (any largeField (entry .fields) || largeRow (entry .row)) (tooLarge (staticSum (entry .fields))) not-large);
-      sum =
-          ap (λ (xs : List Annotated). tooLarge (staticSum xs)) rest-all
-          ∙ or-right (any largeField (entry .fields) || largeRow (entry .row)) (tooLarge (staticSum (entry .fields))) not-large;
-    })
-
     target-lowered : lowerFields (settingAt tables i count (h .options)) (restAt tables i count 0) ≡ lowerSized s h schema
     target-lowered =
-        ap (lowerFields (settingAt tables i count (h .options))) rest-all
+        ap (lowerFields (settingAt tables i count (h .options))) (rest-all tables i)
         ∙ sym (ap (λ (r : Found). onFound r (refused Refusal.NoTarget) (λ k. lowerTarget s h (entryIn s rows v f k))) found)
         ∙ sym (lower-target s h rows v f 0 n)
         ∙ ap (lowerIn s h) same
         ∙ sym (sized-target s h schema i (sym (k .answer) ∙ hx))
 
-    pub target-answers : {m : ℕ} → m ≡ count → {out left : Text} {r : ℕ}
+    pub target-answers : {wanted : Wanted} → wanted ≡ Wanted.Target → {m : ℕ} → m ≡ count → {out left : Text} {r : ℕ}
         → Answers (lowerFields (settingAt tables i m (h .options)) (restAt tables i m 0)) out r left
-        → Answers (lowerSized s h schema) out r left
-    target-answers {m} e {out} {left} {r} a =
-        subst (λ (o : Outcome). Answers o out r left) target-lowered
-        (subst (λ (m : ℕ). Answers (lowerFields (settingAt tables i m (h .options)) (restAt tables i m 0)) out r left) e a)
+        → Gives (sizedFor wanted (length out) s h schema) out r left
+    unfolding sizedFor
+    target-answers ew {m} e {out} {left} {r} a =
+        subst (λ (w : Wanted). Gives (sizedFor w (length out) s h schema) out r left) (sym ew)
+        (subst (λ (o : Outcome). Answers o out r left) target-lowered
+        (subst (λ (m : ℕ). Answers (lowerFields (settingAt tables i m (h .options)) (restAt tables i m 0)) out r left) e a))
+
+    pub all-answers : {wanted : Wanted} → wanted ≡ Wanted.All → {out left : Text} {r : ℕ}
+        → AnswersTold (tellEach s (h .options) (entriesFrom s rows v f 0 n)) out r left
+        → Gives (sizedFor wanted (length out) s h schema) out r left
+    unfolding sizedFor
+    all-answers ew {out} {left} {r} a =
+        subst (λ (w : Wanted). Gives (sizedFor w (length out) s h schema) out r left) (sym ew)
+        (subst (λ (o : Outcomes). Gives (loweredAll (length out) o) out r left)
+        (ap (lowerEach s h) same ∙ sym (all-target s h schema i (sym (k .answer) ∙ hx)))
+        (each-answers s h (entriesFrom s rows v f 0 n) a))

@@ -1,4 +1,4 @@
--- What the steps of `lower` answer, by the definitions of its answer.
+-- What the steps of `lower` and `lower_all` answer, by the definitions of their answers.
 -- Assumes nothing.
 use mathlib.Core.List.{List}
 use mathlib.Core.Path.{_≡_}
@@ -7,31 +7,49 @@ use lib.ListN.{length}
 use Rattle.definitions.specs.Bytes.{Text}
 use Rattle.definitions.specs.Sizes.{Schema}
 use Rattle.definitions.specs.FieldParser.{Outcome, refused}
-use Rattle.definitions.specs.Answer.{lowerIn, Lowered, turnedBack, fitted, lowered, word, bufferAfter}
+use Rattle.definitions.specs.Answer.{lowerIn, Lowered, turnedBack, fitted, lowered, lower, word, bufferAfter}
+use Rattle.definitions.specs.All.{Outcomes, refusedAll, lowerEach, loweredAll, lowerAll}
 use Rattle.definitions.specs.declared.Head.{Head}
 use Rattle.definitions.specs.declared.Verdict.{Verdict}
 use Rattle.plans.specs.Told.{Told}
 use Rattle.sizes.specs.Answers.{checkSizes}
 use Rattle.sizes.specs.declared.Sizing.{Sizing}
 use Rattle.tables.specs.Tables.{countHere}
+use Rattle.lowering.specs.declared.Wanted.{Wanted}
 
--- the number and the buffer for an outcome: 15 on top
-pub record Answers (o : Outcome) (out : Text) (r : ℕ) (left : Text) : Type 0 where
-  pub number-is : r ≡ word (lowered (length out) o)
-  pub buffer-is : left ≡ bufferAfter (lowered (length out) o) out
+-- the number, and what the buffer then holds
+pub record Gives (l : Lowered) (out : Text) (r : ℕ) (left : Text) : Type 0 where
+  pub number-is : r ≡ word l
+  pub buffer-is : left ≡ bufferAfter l out
 
--- the same for what a plan tells
+-- for an outcome: 15 on top
+abbrev pub Answers : Outcome → Text → ℕ → Text → Type 0
+Answers o out r left = Gives (lowered (length out) o) out r left
+
+-- for what a plan, or each target's, tells
 abbrev pub loweredBy : ℕ → Verdict → Text → Lowered
 loweredBy room Verdict.Pass lines = fitted room lines
 loweredBy room (Verdict.Refuse why) lines = turnedBack why
 
-pub record AnswersTold (told : Told) (out : Text) (r : ℕ) (left : Text) : Type 0 where
-  pub number-is : r ≡ word (loweredBy (length out) (told .verdict) (told .lines))
-  pub buffer-is : left ≡ bufferAfter (loweredBy (length out) (told .verdict) (told .lines)) out
+abbrev pub AnswersTold : Told → Text → ℕ → Text → Type 0
+AnswersTold told out r left = Gives (loweredBy (length out) (told .verdict) (told .lines)) out r left
 
 -- 7 to 9, and then the target
 unfoldable pub lowerSized : Text → Head → Schema → Outcome
 lowerSized s h schema = elim (checkSizes s h schema) [ Sizing.Target i ↦ lowerIn s h schema | Sizing.Refuse why ↦ refused why ]
+
+-- or every packet and struct
+unfoldable pub allSized : Text → Head → Schema → Outcomes
+allSized s h schema = elim (checkSizes s h schema) [ Sizing.Target i ↦ lowerEach s h schema | Sizing.Refuse why ↦ refusedAll why ]
+
+-- what is asked for
+unfoldable pub sizedFor : Wanted → ℕ → Text → Head → Schema → Lowered
+sizedFor Wanted.Target room s h schema = lowered room (lowerSized s h schema)
+sizedFor Wanted.All room s h schema = loweredAll room (allSized s h schema)
+
+unfoldable pub lowerFor : Wanted → Text → ℕ → Lowered
+lowerFor Wanted.Target rec room = lower rec room
+lowerFor Wanted.All rec room = lowerAll rec room
 
 -- behind refusal 3: the rows of n declarations
 pub record Few (rows : List ℕ) (n : ℕ) : Type 0 where

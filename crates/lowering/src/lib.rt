@@ -1,6 +1,6 @@
-// `lower` (document 01, module 6): the record's bytes in, the lines of its target's C++ parser out. The reader, the sizes and the parser each turn a
-// record back by their refusals; here the tables are lent to them, the target's plan is handed on, 15 is tested, and number and length come to one
-// 64-bit number.
+// `lower` (document 01, module 6): the record's bytes in, the lines of its target's C++ parser out; and `lower_all` (document 02, Card 13): those of every
+// packet and struct. The reader, the sizes and the parser each turn a record back by their refusals; here the tables are lent to them, the target's plan is
+// handed on, 15 is tested, and number and length come to one 64-bit number.
 
 use definitions::Head;
 use definitions::Options;
@@ -16,14 +16,23 @@ ghost use Rattle.definitions.specs.Bytes.{Text};
 ghost use Rattle.definitions.specs.Sizes.{newSchema};
 ghost use Rattle.definitions.specs.FieldParser.{lowerFields};
 ghost use Rattle.definitions.specs.Answer.{lower as answered, word, bufferAfter};
+ghost use Rattle.definitions.specs.All.{lowerAll};
 ghost use Rattle.definitions.specs.declared.Part.{Part};
 ghost use Rattle.stream.specs.Stream.{fresh};
+ghost use Rattle.schema.specs.Entries.{entriesFrom};
 ghost use Rattle.tables.specs.Tables.{declarationsFrom, Tables, tablesOf};
 ghost use Rattle.record.specs.Reader.{valuesRoom};
 ghost use Rattle.emits.specs.Target.{settingAt, restAt, Fine};
 ghost use Rattle.plans.specs.Told.{tell};
 ghost use Rattle.plans.specs.Plans.{plansFrom, Sound};
-ghost use Rattle.lowering.specs.Steps.{Answers, AnswersTold, Few, lowerSized};
+ghost use Rattle.targets.specs.Told.{tellEach, AllFine};
+ghost use Rattle.lowering.specs.Steps.{Gives, Answers, AnswersTold, Few, sizedFor, lowerFor};
+
+// What is asked for: the lines of the head's target, or those of every packet and struct.
+enum Wanted {
+    Target,
+    All,
+}
 
 // ---- the lines
 
@@ -71,6 +80,35 @@ fn write_lines(
     write_plan(rec, out, options, plan, n)
 }
 
+// The sections of all n declarations, twice, as `write_plan` does.
+fn write_sections(
+    rec: &[u8],
+    out: &mut [u8],
+    options: Options,
+    rows: &[u64],
+    values: &[u64],
+    fields: &[u16],
+    n: usize,
+) -> u64
+    requires { let t : Tables = tablesOf (now rec) (now rows) (now values) (now fields) in ⌜ AllFine t n ⌝ }
+    ensures { λ r. let t : Tables = tablesOf (now (rec .entry)) (now (rows .entry)) (now (values .entry)) (now (fields .entry)) in
+        ⌜ AnswersTold (tellEach (t .source) options (entriesFrom (t .source) (t .rows) (t .values) (t .fields) 0 n)) (now (out .entry)) r (now (out .exit)) ⌝ }
+{
+    let mut none = [0u8; 0];
+    let whole = targets::put_sections(rec, &mut none, options, rows, values, fields, n);
+    let verdict = whole.verdict;
+    match verdict {
+        Verdict::Refuse(why) => refusals::turned_back(why),
+        Verdict::Pass => {
+            if out.len() < whole.at {
+                return refusals::turned_back(Refusal::NoRoom);
+            }
+            let written = targets::put_sections(rec, out, options, rows, values, fields, n);
+            written.at as u64
+        }
+    }
+}
+
 // ---- the record
 
 // A record of n declarations that the reader passes.
@@ -82,37 +120,42 @@ fn lower_read(
     values: &[u64],
     fields: &[u16; 2048],
     n: usize,
+    wanted: Wanted,
 ) -> u64
-    requires { ⌜ Few (now rows) n ⌝ }
+    requires { ⌜ (length (now rec) ≤ 16384) × Few (now rows) n ⌝ }
     ensures { λ r. let t : Tables = tablesOf (now (rec .entry)) (now (rows .entry)) (now (values .entry)) (now (fields .entry)) in
-        ⌜ Answers (lowerSized (t .source) head (newSchema (t .source) (declarationsFrom (t .rows) (t .values) (t .fields) 0 n)))
+        ⌜ Gives (sizedFor wanted (length (now (out .entry))) (t .source) head (newSchema (t .source) (declarationsFrom (t .rows) (t .values) (t .fields) 0 n)))
         (now (out .entry)) r (now (out .exit)) ⌝ }
 {
     match sizes::check_sizes(rec, head, rows, values, fields, n) {
         Sizing::Refuse(why) => refusals::turned_back(why),
-        Sizing::Target(i) => {
-            let count = tables::count_here(rows, i);
-            write_lines(rec, out, head.options, rows, values, fields, i, count)
-        }
+        Sizing::Target(i) => match wanted {
+            Wanted::Target => {
+                let count = tables::count_here(rows, i);
+                write_lines(rec, out, head.options, rows, values, fields, i, count)
+            }
+            Wanted::All => write_sections(rec, out, head.options, rows, values, fields, n),
+        },
     }
 }
 
 // With room for the values of the record's fields.
-fn lower_in(rec: &[u8], out: &mut [u8], values: &mut [u64]) -> u64
+fn lower_in(rec: &[u8], out: &mut [u8], values: &mut [u64], wanted: Wanted) -> u64
     requires { ⌜ valuesRoom (now rec) ≤ length (now values) ⌝ }
-    ensures { λ r. ⌜ (r ≡ word (answered (now (rec .entry)) (length (now (out .entry)))))
-        × (now (out .exit) ≡ bufferAfter (answered (now (rec .entry)) (length (now (out .entry)))) (now (out .entry))) ⌝ }
+    ensures { λ r. ⌜ Gives (lowerFor wanted (now (rec .entry)) (length (now (out .entry)))) (now (out .entry)) r (now (out .exit)) ⌝ }
 {
     let mut rows = [0u64; 416];
     let mut fields = [0u16; 2048];
     match record::read_record(rec, &mut rows, values, &mut fields) {
         Reading::Refuse(why) => refusals::turned_back(why),
-        Reading::Pass(head, n) => lower_read(rec, out, head, &mut rows, values, &fields, n),
+        Reading::Pass(head, n) => lower_read(rec, out, head, &mut rows, values, &fields, n, wanted),
     }
 }
 
+// ---- the exported functions: each makes the table of values, in a size by the record's length, which spares short records the clearing of the largest.
+// A field has 16 bytes or more and 17 numbers
+
 // The number is the answer times 2^32 plus the length of the lines, which stand at the front of `out`; all behind them is as it was.
-// A field has 16 bytes or more and 17 numbers: four sizes of the table of values spare short records the clearing of the largest.
 #[no_mangle]
 pub extern "C" fn lower(rec: &[u8], out: &mut [u8]) -> u64
     ensures { λ r. ⌜ (r ≡ word (answered (now (rec .entry)) (length (now (out .entry)))))
@@ -120,16 +163,30 @@ pub extern "C" fn lower(rec: &[u8], out: &mut [u8]) -> u64
 {
     if rec.len() <= 256 {
         let mut values = [0u64; 272];
-        return lower_in(rec, out, &mut values);
+        return lower_in(rec, out, &mut values, Wanted::Target);
     }
     if rec.len() <= 1024 {
         let mut values = [0u64; 1088];
-        return lower_in(rec, out, &mut values);
+        return lower_in(rec, out, &mut values, Wanted::Target);
     }
     if rec.len() <= 4096 {
         let mut values = [0u64; 4416];
-        return lower_in(rec, out, &mut values);
+        return lower_in(rec, out, &mut values, Wanted::Target);
     }
     let mut values = [0u64; 17408];
-    lower_in(rec, out, &mut values)
+    lower_in(rec, out, &mut values, Wanted::Target)
+}
+
+// The same, of the sections of every packet and struct, joined. A whole file is seldom short: two sizes do.
+#[no_mangle]
+pub extern "C" fn lower_all(rec: &[u8], out: &mut [u8]) -> u64
+    ensures { λ r. ⌜ (r ≡ word (lowerAll (now (rec .entry)) (length (now (out .entry)))))
+        × (now (out .exit) ≡ bufferAfter (lowerAll (now (rec .entry)) (length (now (out .entry)))) (now (out .entry))) ⌝ }
+{
+    if rec.len() <= 4096 {
+        let mut values = [0u64; 4416];
+        return lower_in(rec, out, &mut values, Wanted::All);
+    }
+    let mut values = [0u64; 17408];
+    lower_in(rec, out, &mut values, Wanted::All)
 }

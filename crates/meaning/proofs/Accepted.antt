@@ -1,4 +1,5 @@
--- The blocks of every accepted record are as `BlocksOk` asks: what is checked is what is read, names are apart, elements have a size.
+-- The blocks of every entry that is lowered, so of every accepted record, are as `BlocksOk` asks: what is checked is what is read, names are apart,
+-- elements have a size.
 -- Assumes nothing.
 use mathlib.Core.Bool.{Bool, true, false, _||_}
 use mathlib.Core.List.{List, [], _∷_, _++_, append-assoc}
@@ -10,7 +11,7 @@ use native.Mathlib.Omega.{arith}
 use lib.Dec.{ltb, eqb}
 use borrow.Author.Tests.{ltb-false, eqb-true, eqb-false, not-false}
 use Rattle.definitions.specs.Bytes.{Text, text, pick}
-use Rattle.definitions.specs.Sizes.{Row, Annotated, totalSize, lookup, descEnum, enumOf, hasPayloadSize, anyReference, isElementSize, typedElement, elementSize, staticWidth}
+use Rattle.definitions.specs.Sizes.{Entry, Row, Annotated, totalSize, lookup, descEnum, enumOf, hasPayloadSize, anyReference, isElementSize, typedElement, elementSize, staticWidth}
 use Rattle.definitions.specs.Refusals.{raggedSize, notWhole, raggedArray, raggedDesc, raggedField, isOptional}
 use Rattle.definitions.specs.Blocks.{span, Kind, Bit, Chunk, chunkName, Block, Array, widths, prefix, named}
 use Rattle.definitions.specs.FieldParser.{Setting, FieldParser, Step, go, stop, andThen, new, append, flushed, checkCode, written, member, fieldName, isCondFor, enumKind, kindOf, bitOf, openChunk, closeChunk, parseBitField, Emit, appends, silent, refuses, onBoundary, onTrailing, getTrailingSize, typedefBySize, parseTypedefField, optionalTypedef, parseOptionalField, payloadBySize, parsePayloadFieldLite, typedElem, elemOf, withPadding, parseArrayField, parseOther, isBit, parseUnchecked, emitted, parse, parseAll, done, Outcome, refused, accepted, codeOf, lowerFields}
@@ -21,20 +22,20 @@ use Rattle.definitions.specs.declared.MaybeNumber.{MaybeNumber}
 use Rattle.definitions.specs.declared.Modifier.{Modifier}
 use Rattle.definitions.specs.declared.EndiannessValue.{EndiannessValue}
 use Rattle.definitions.specs.declared.Arrays.{Arrays}
+use Rattle.definitions.specs.declared.Head.{Head}
 use Rattle.definitions.specs.declared.FieldDesc.{FieldDesc}
 use Rattle.definitions.specs.declared.Cond.{Cond}
 use Rattle.definitions.specs.declared.Size.{Size}
 use Rattle.definitions.specs.declared.Refusal.{Refusal}
 use Rattle.definitions.specs.declared.ElementSize.{ElementSize}
-use Rattle.definitions.specs.Answer.{answer}
+use Rattle.definitions.specs.Answer.{settingOf, answer}
 use Rattle.lengths.proofs.Booleans.{neither}
 use Rattle.lengths.proofs.Steps.{widths-snoc}
-use Rattle.meaning.specs.Runs.{setting}
 use Rattle.meaning.proofs.Items.{offsets}
 use Rattle.meaning.proofs.Wellformed.{Apart, ElemOk, Spares, SparesAll, Shifted, ChunkOk, ChunksOk, BlockOk, BlocksOk, Plain}
 use Rattle.meaning.proofs.ChunkNames.{Free, free-ends, raw-free, DescFree}
 use Rattle.meaning.proofs.Names.{apart-ends}
-use Rattle.meaning.proofs.Entries.{RowsOk, FoundOk, lookup-ok, Fits, AllFit, has-grounds}
+use Rattle.meaning.proofs.Entries.{RowsOk, FoundOk, lookup-ok, Fits, AllFit, Lowers, has-grounds}
 
 -- ---- the elements of an array
 
@@ -387,7 +388,12 @@ lower-ok c xs rows fit =
     (all-good c rows new xs fit (record { shift-is = refl; offset-is = refl; blocks = tt; shifts = tt; spares = λ nr. tt; pending = tt }))
     (λ q g. check-good c q g))
 
+-- of any entry whose fields give these blocks
+pub blocks-ok-of : (s : Text) (h : Head) (e : Entry) (bs : List Block) → Lowers s h e bs → BlocksOk bs
+blocks-ok-of s h e bs l = subst OutcomeOk (l .lowers) (lower-ok (settingOf s h e) (e .fields) (l .ok .rows) (l .ok .fit))
+
+-- so of an accepted record's target
 pub blocks-ok : (s : Text) (bs : List Block) → answer s ≡ accepted bs → BlocksOk bs
 blocks-ok s bs e =
-    let h = has-grounds s bs e in
-    subst OutcomeOk (h .1 .lowers) (lower-ok (setting s (h .0)) (h .0 .entry .fields) (h .1 .ok .rows) (h .1 .ok .fit))
+    let g = has-grounds s bs e in
+    blocks-ok-of s (g .0 .head) (g .0 .entry) bs (g .1 .lowered)

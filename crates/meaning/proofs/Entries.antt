@@ -1,5 +1,5 @@
--- What an accepted record's target has: its entry of the tables, whose names were found, whose arrays have whole elements, and whose bit fields have the
--- widths that the record declares. From refusals 16 and 3 to 9, entry by entry.
+-- What each entry of the tables has, where none of the refusals 16 and 3 to 9 is met: its names were found, its arrays have whole elements, and its bit
+-- fields have the widths that the record declares. So the target of an accepted record has it.
 -- Assumes nothing.
 use mathlib.Core.Bool.{Bool, true, false}
 use mathlib.Core.List.{List, [], _∷_, _++_}
@@ -219,7 +219,7 @@ pub record EntryOk (s : Text) (h : Head) (e : Entry) : Type 0 where
   pub fields-are : plain (e .fields) ≡ e .declaration .fields
   pub few : length (e .fields) ≤ 64
 
-abbrev EntriesOk : Text → Head → Schema → Type 0
+abbrev pub EntriesOk : Text → Head → Schema → Type 0
 EntriesOk s h [] = Unit {0}
 EntriesOk s h (e ∷ es) = EntryOk s h e × EntriesOk s h es
 
@@ -249,14 +249,6 @@ entries-ok s h earlier rows (d ∷ ds) are ok m u free r =
           (some .1) (neither (badNames s earlier d) (unknownFrom s (earlier ++ (d ∷ [])) ds) u .1) (free .1) (r .1),
     )
 
--- ---- the answer
-
--- what is known of the target of an accepted record
-pub record Grounds (s : Text) (bs : List Block) (t : Target) : Type 0 where
-  pub lowers : lowerTarget s (t .head) (t .entry) ≡ accepted bs
-  pub is-target : targetOf s ≡ some t
-  pub ok : EntryOk s (t .head) (t .entry)
-
 -- none of 16 and 3 to 9 is met
 module _ (s : Text) (h : Head) (ds : List Declaration) (schema : Schema) where
   passes-tests : verdict s h ds schema ≡ Verdict.Pass
@@ -272,21 +264,41 @@ module _ (s : Text) (h : Head) (ds : List Declaration) (schema : Schema) where
       let whole = refuse-next (ragged s schema) Refusal.NotWholeBytes _ (size .1) in
       (free .0, many .0, unknown .0, whole .0)
 
+-- so each entry is as `EntryOk` says
+pub each-ok : (s : Text) (h : Head) (ds : List Declaration) → readRecord s ≡ recordIs h ds → verdict s h ds (newSchema s ds) ≡ Verdict.Pass
+    → EntriesOk s h (newSchema s ds)
+unfolding ragged tooMany
+each-ok s h ds r e =
+    let p = passes-tests s h ds (newSchema s ds) e in
+    entries-ok s h [] [] ds tt tt (neither (ltb 32 (length ds)) (any (λ (d : Declaration). ltb 64 (length (d .fields))) ds) (p .1) .1) (p .2)
+    (subst (RecordFree s) r (record-free s))
+    (none-of (λ (x : Entry). any (raggedField s (x .earlier)) (x .declaration .fields)) (newSchema s ds) (p .3))
+
+-- ---- the answer
+
+-- what is known of an entry whose fields give these blocks: enough for demand 3
+pub record Lowers (s : Text) (h : Head) (e : Entry) (bs : List Block) : Type 0 where
+  pub lowers : lowerTarget s h e ≡ accepted bs
+  pub ok : EntryOk s h e
+
+-- what is known of the target of an accepted record
+pub record Grounds (s : Text) (bs : List Block) (t : Target) : Type 0 where
+  pub is-target : targetOf s ≡ some t
+  pub lowered : Lowers s (t .head) (t .entry) bs
+
 -- the target is the first entry that is asked for
 first-lowered : (s : Text) (h : Head) (bs : List Block) (es : Schema) → EntriesOk s h es → lowerIn s h es ≡ accepted bs
-    → (t : Target) × (firstTarget s h es ≡ some t) × (lowerTarget s (t .head) (t .entry) ≡ accepted bs) × EntryOk s (t .head) (t .entry)
+    → (t : Target) × (firstTarget s h es ≡ some t) × Lowers s (t .head) (t .entry) bs
 unfolding lowerIn firstTarget
 first-lowered s h bs [] k e = impossible (cc)
 first-lowered s h bs (d ∷ es) k e = by (λ f. first-lowered s h bs es (k .1) f) (isTarget s h d) e
   where
-    by : (lowerIn s h es ≡ accepted bs
-        → (t : Target) × (firstTarget s h es ≡ some t) × (lowerTarget s (t .head) (t .entry) ≡ accepted bs) × EntryOk s (t .head) (t .entry))
+    by : (lowerIn s h es ≡ accepted bs → (t : Target) × (firstTarget s h es ≡ some t) × Lowers s (t .head) (t .entry) bs)
         → (b : Bool) → (elim b as (λ _. Outcome) [ true ↦ lowerTarget s h d | false ↦ lowerIn s h es ]) ≡ accepted bs
         → (t : Target)
         × ((elim b as (λ _. Option Target) [ true ↦ some (record { head = h; entry = d }) | false ↦ firstTarget s h es ]) ≡ some t)
-        × (lowerTarget s (t .head) (t .entry) ≡ accepted bs)
-        × EntryOk s (t .head) (t .entry)
-    by more true f = (record { head = h; entry = d }, refl, f, k .0)
+        × Lowers s (t .head) (t .entry) bs
+    by more true f = (record { head = h; entry = d }, refl, record { lowers = f; ok = k .0 })
     by more false f = more f
 
 -- an accepted record is read
@@ -307,34 +319,29 @@ has-record s bs e = by (readRecord s) (read-accepted s bs e)
     by (recordIs h ds) f = (h, ds, refl)
 
 -- it meets none of the tests, and its target is lowered
-pub tests-passed : (s : Text) (bs : List Block) → answer s ≡ accepted bs → (h : Head) (ds : List Declaration) → readRecord s ≡ recordIs h ds
-    → (keywordName s h ds ≡ false) × (tooMany ds ≡ false) × (unknownName s ds ≡ false) × (ragged s (newSchema s ds) ≡ false)
-    × (lowerIn s h (newSchema s ds) ≡ accepted bs)
+record-passed : (s : Text) (bs : List Block) → answer s ≡ accepted bs → (h : Head) (ds : List Declaration) → readRecord s ≡ recordIs h ds
+    → (verdict s h ds (newSchema s ds) ≡ Verdict.Pass) × (lowerIn s h (newSchema s ds) ≡ accepted bs)
 unfolding lowerRecord
-tests-passed s bs e h ds r =
-    let v = by (verdict s h ds (newSchema s ds)) (ap (answerRead s) (sym r) ∙ read-accepted s bs e) in
-    let p = passes-tests s h ds (newSchema s ds) (v .0) in
-    (p .0, p .1, p .2, p .3, v .1)
+record-passed s bs e h ds r = by (verdict s h ds (newSchema s ds)) (ap (answerRead s) (sym r) ∙ read-accepted s bs e)
   where
     by : (v : Verdict) → (elim v as (λ _. Outcome) [ Verdict.Pass ↦ lowerIn s h (newSchema s ds) | Verdict.Refuse why ↦ refused why ]) ≡ accepted bs
         → (v ≡ Verdict.Pass) × (lowerIn s h (newSchema s ds) ≡ accepted bs)
     by (Verdict.Refuse why) f = impossible (cc)
     by Verdict.Pass f = (refl, f)
 
+-- no name of it is a keyword
+pub no-keyword : (s : Text) (bs : List Block) → answer s ≡ accepted bs → (h : Head) (ds : List Declaration) → readRecord s ≡ recordIs h ds
+    → keywordName s h ds ≡ false
+no-keyword s bs e h ds r = passes-tests s h ds (newSchema s ds) (record-passed s bs e h ds r .0) .0
+
 pub has-grounds : (s : Text) (bs : List Block) → answer s ≡ accepted bs → (t : Target) × Grounds s bs t
-unfolding ragged tooMany
 has-grounds s bs e = by (has-record s bs e)
   where
     by : (h : Head) × (ds : List Declaration) × (readRecord s ≡ recordIs h ds) → (t : Target) × Grounds s bs t
     by (h, ds, r) =
-        let p = tests-passed s bs e h ds r in
-        let t =
-        first-lowered s h bs (newSchema s ds)
-        (entries-ok s h [] [] ds tt tt (neither (ltb 32 (length ds)) (any (λ (d : Declaration). ltb 64 (length (d .fields))) ds) (p .1) .1) (p .2)
-        (subst (RecordFree s) r (record-free s))
-        (none-of (λ (x : Entry). any (raggedField s (x .earlier)) (x .declaration .fields)) (newSchema s ds) (p .3)))
-        (p .4) in
-        (t .0, record { lowers = t .2; is-target = ap (targetIn s) r ∙ t .1; ok = t .3 })
+        let p = record-passed s bs e h ds r in
+        let t = first-lowered s h bs (newSchema s ds) (each-ok s h ds r (p .0)) (p .1) in
+        (t .0, record { is-target = ap (targetIn s) r ∙ t .1; lowered = t .2 })
 
 -- there is one target
 pub same-target : {a b : Target} → some a ≡ some b → a ≡ b

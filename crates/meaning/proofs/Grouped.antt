@@ -1,25 +1,26 @@
--- The checked runs of an accepted record are the runs of its target's bit fields, in order, and they read in the file's order.
+-- The checked runs of an entry that is lowered, as an accepted record's target is, are the runs of its bit fields, in order, and they read in the
+-- file's order.
 -- Assumes nothing.
 use mathlib.Core.Bool.{Bool, true, false}
 use mathlib.Core.List.{List, [], _∷_, _++_, append-assoc, append-nil}
-use mathlib.Core.Option.{some}
 use mathlib.Core.Path.{_≡_, refl, sym, ap, _∙_, subst}
 use Prim.Native.Nat.{ℕ, _+_, _%_}
 use native.Mathlib.Nat.{add-zero}
 use native.Mathlib.Omega.{arith}
 use lib.Dec.{ltb, eqb}
 use Rattle.definitions.specs.Bytes.{Text}
-use Rattle.definitions.specs.Sizes.{Annotated, staticWidth}
+use Rattle.definitions.specs.Sizes.{Entry, Annotated, staticWidth}
 use Rattle.definitions.specs.Refusals.{raggedField}
 use Rattle.definitions.specs.Blocks.{Bit, Chunk, Block}
 use Rattle.definitions.specs.FieldParser.{Setting, FieldParser, Step, go, stop, andThen, new, append, flushed, checkCode, bitOf, kindOf, openChunk, closeChunk, parseBitField, Emit, appends, silent, refuses, isBit, parseUnchecked, emitted, parse, parseAll, done, Outcome, refused, accepted, codeOf, lowerFields}
-use Rattle.definitions.specs.Answer.{answer}
+use Rattle.definitions.specs.Answer.{settingOf}
 use Rattle.definitions.specs.declared.Options.{Options}
+use Rattle.definitions.specs.declared.Head.{Head}
 use Rattle.definitions.specs.declared.Field.{Field}
 use Rattle.definitions.specs.declared.Refusal.{Refusal}
 use Rattle.meaning.specs.Rule.{widthOf, bitsIn, endRun, gather, runs}
-use Rattle.meaning.specs.Runs.{fieldsOf, blockRun, runsIn, placed, placedRun, placedRuns, Target, targetOf, setting}
-use Rattle.meaning.proofs.Entries.{plain, RowsOk, AllFit, Grounds, grounds}
+use Rattle.meaning.specs.Runs.{fieldsOf, blockRun, runsIn, placed, placedRun, placedRuns}
+use Rattle.meaning.proofs.Entries.{plain, RowsOk, AllFit, Lowers}
 use Rattle.meaning.proofs.Wellformed.{OptionsOf, AllOptions, Plain}
 use Rattle.meaning.proofs.Accepted.{EmitOk, unchecked-ok}
 
@@ -261,7 +262,7 @@ module _ (c : Setting) (rows : RowsOk (c .scope)) where
 
 -- ---- the answer
 
--- the checked runs are the runs of the target's fields, with the head's choices
+-- the checked runs are the runs of the fields, with the head's choices
 pub record Shaped (c : Setting) (bs : List Block) : Type 0 where
   pub runs-are : runsIn bs ≡ placedRuns c (runs c)
   pub options : AllOptions (c .options) bs
@@ -281,7 +282,7 @@ lower-shaped c rows xs fit are =
     by (stop why) m = tt
     by (go p) m = record { runs-are = m .0; options = m .1 tt }
 
-pub shaped : (s : Text) (bs : List Block) → answer s ≡ accepted bs → (t : Target) → targetOf s ≡ some t → Shaped (setting s t) bs
-shaped s bs e t f =
-    let g : Grounds s bs t = grounds s bs e t f in
-    subst (OutcomeShaped (setting s t)) (g .lowers) (lower-shaped (setting s t) (g .ok .rows) (t .entry .fields) (g .ok .fit) (g .ok .fields-are))
+-- of any entry whose fields give these blocks
+pub shaped-of : (s : Text) (h : Head) (e : Entry) (bs : List Block) → Lowers s h e bs → Shaped (settingOf s h e) bs
+shaped-of s h e bs l =
+    subst (OutcomeShaped (settingOf s h e)) (l .lowers) (lower-shaped (settingOf s h e) (l .ok .rows) (e .fields) (l .ok .fit) (l .ok .fields-are))

@@ -23,7 +23,7 @@ use Rattle.definitions.specs.declared.Products.{Products}
 use Rattle.definitions.specs.declared.Head.{Head}
 use Rattle.meaning.specs.Identifiers.{turn, exprIds, srcIds, testIds, destIds, outIds, lineIds, linesIds, stmtIds, identifiers, behindArrow}
 use Rattle.meaning.proofs.Keywords.{NotKeyword, span-end, start-end, bare-free, named-free, chunk-free, raw-free, tested-free}
-use Rattle.meaning.proofs.Entries.{tests-passed}
+use Rattle.meaning.proofs.Entries.{no-keyword}
 use Rattle.meaning.proofs.Unreserved.{KindNames, BitsNames, ChunksNames, ElemNames, ArrayNames, BlockNames, BlocksNames, blocks-names}
 
 -- none of these texts is a keyword
@@ -261,7 +261,7 @@ nested-own = refl
 -- no name of an accepted record is a keyword
 pub names-free : (s : Text) (bs : List Block) → answer s ≡ accepted bs
     → (h : Head) (ds : List Declaration) → readRecord s ≡ recordIs h ds → anyKeyword s (recordNames h ds) ≡ false
-names-free s bs e h ds r = tests-passed s bs e h ds r .0
+names-free s bs e h ds r = no-keyword s bs e h ds r
 
 all-free : (s : Text) (bs : List Block) → answer s ≡ accepted bs → Free (identifiers (program bs))
 all-free s bs e = stmts-free (program bs) (program-free bs (blocks-names s bs e))

@@ -207,7 +207,7 @@ pub payload-ends : (s : Text) (bs : List Block) → answer s ≡ accepted bs
 payload-ends s bs e t f mode before a later are payload unsized =
     from
     (payload-lowered (setting s t) later unsized bs before a payload
-    (ap (lowerFields (setting s t)) (sym are) ∙ grounds s bs e t f .lowers))
+    (ap (lowerFields (setting s t)) (sym are) ∙ grounds s bs e t f .lowered .lowers))
   where
     from : LoweredBehind (setting s t) later bs → PayloadEnds bs (setting s t) later
     from p =

@@ -15,7 +15,7 @@ use Rattle.definitions.specs.FieldParser.{Outcome, refused, accepted}
 use Rattle.definitions.specs.Answer.{answer, Lowered, turnedBack, fitted, lowered, lower}
 use Rattle.definitions.specs.declared.Refusal.{Refusal}
 
-never-zero : (why : Refusal) → number why ≡ 0 → ⊥
+pub never-zero : (why : Refusal) → number why ≡ 0 → ⊥
 never-zero Refusal.RecordLength e = omega arith
 never-zero Refusal.RecordForm e = omega arith
 never-zero Refusal.Keyword e = omega arith
@@ -32,9 +32,10 @@ never-zero Refusal.OctetBoundary e = omega arith
 never-zero Refusal.ScalarTooWide e = omega arith
 never-zero Refusal.UnsupportedOptional e = omega arith
 never-zero Refusal.MultipleUnknown e = omega arith
+never-zero Refusal.SectionTooLong e = omega arith
 never-zero Refusal.NoRoom e = omega arith
 
-fitted-lines : (room : ℕ) (t : Text) → fitted room t .answered ≡ 0 → fitted room t .lines ≡ t
+pub fitted-lines : (room : ℕ) (t : Text) → fitted room t .answered ≡ 0 → fitted room t .lines ≡ t
 unfolding fitted
 fitted-lines room t = by (leb (length t) room)
   where

@@ -6,11 +6,13 @@ use Prim.Native.Nat.{ℕ, _+_, _*_, _-_, _/_, _≤_}
 use native.Mathlib.Omega.{arith}
 use lib.ListN.{length, drop, length-drop}
 use Rattle.definitions.specs.Bytes.{Text}
+use Rattle.definitions.specs.Sizes.{Entry}
 use Rattle.definitions.specs.Lines.{Expr, Line, Stmt}
 use Rattle.definitions.specs.Blocks.{span, Chunk, widths, chunkName, chunkLines, chunksLines, checkSize, body, Block, program}
 use Rattle.definitions.specs.FieldParser.{Setting, kindOf, accepted}
 use Rattle.definitions.specs.Answer.{answer}
 use Rattle.definitions.specs.declared.Options.{Options}
+use Rattle.definitions.specs.declared.Head.{Head}
 use Rattle.meaning.specs.Machine.{Reply, State, start, Standing, running, fetch, run}
 use Rattle.meaning.specs.Rule.{Octets, widthOf, bitsIn}
 use Rattle.meaning.specs.Runs.{CheckedRun, runLines, behindRun, allWidths, Passes, ComeTo, RunToItsEnd, placed}
@@ -18,7 +20,8 @@ use Rattle.meaning.specs.Places.{BitField, groupOf, groupChunk, ChunkOf,
 use Rattle.meaning.proofs.Items.{offsets}
 use Rattle.meaning.proofs.Wellformed.{SparesAll, ChunkOk, ChunksOk, CheckedOk, BlocksOk}
 use Rattle.meaning.proofs.Wp.{Post, wpLines, held}
-use Rattle.meaning.proofs.Accepted.{blocks-ok}
+use Rattle.meaning.proofs.Entries.{Lowers, has-grounds}
+use Rattle.meaning.proofs.Accepted.{blocks-ok-of}
 use Rattle.meaning.proofs.Passing.{Through, Passed, passed, passes-hold, run-add, body-append, body-length}
 use Rattle.meaning.proofs.Whole.{reach, block-ok, octets-inside}
 use Rattle.meaning.proofs.Moves.{eight-widths, Moved, chunks-then, run-moved}
@@ -26,9 +29,16 @@ use Rattle.meaning.proofs.Values.{taken-is-fetched, placed-widths, at-c
 
 -- ---- a checked run
 
+-- of any entry whose fields give these blocks
+pub checked-ok-of : (s : Text) (h : Head) (e : Entry) (bs : List Block) → Lowers s h e bs → (r : CheckedRun bs) → CheckedOk (r .number) (r .chunks)
+checked-ok-of s h e bs l r =
+    block-ok (r .pre) (Block.checked (r .options) (r .number) (r .chunks)) (r .post) (subst BlocksOk (r .blocks-are) (blocks-ok-of s h e bs l))
+
+-- so of an accepted record's target
 pub checked-ok : (s : Text) (bs : List Block) → answer s ≡ accepted bs → (r : CheckedRun bs) → CheckedOk (r .number) (r .chunks)
-checked-ok s bs e r =
-    block-ok (r .pre) (Block.checked (r .options) (r .number) (r .chunks)) (r .post) (subst BlocksOk (r .blocks-are) (blocks-ok s bs e))
+checked-ok s bs e =
+    let g = has-grounds s bs e in
+    checked-ok-of s (g .0 .head) (g .0 .entry) bs (g .1 .lowered)
 
 pub number-widths : (n : ℕ) (cs : List Chunk) → CheckedOk n cs → (n ≡ allWidths cs / 8) × (8 * n ≡ allWidths cs)
 number-widths n cs ok =

@@ -31,7 +31,7 @@ use Rattle.lengths.proofs.Booleans.{impossible}
 use Rattle.lengths.proofs.Names.{MaybeIs, DescIs, CondIs, FieldsAre, DeclarationsAre}
 use Rattle.meaning.specs.Runs.{Target, firstTarget, targetIn, setting}
 use Rattle.meaning.proofs.Keywords.{NotKeyword, named-free, names-are, all-usable}
-use Rattle.meaning.proofs.Entries.{plain, has-record, tests-passed, has-grounds, same-target}
+use Rattle.meaning.proofs.Entries.{plain, has-record, no-keyword, has-grounds, same-target}
 
 module _ (P : Text → Type 0) where
   -- ---- the texts of a block
@@ -364,8 +364,8 @@ module _ (P : Text → Type 0) (ended : (m : Arrays) (id end : Text) → P (name
       let g = has-grounds s bs e in
       let names : FieldsAre (λ n. P (part s n)) (g .0 .entry .declaration .fields) =
       target-names (λ n. P (part s n)) s h [] ds k (g .0) (ap (targetIn s) (sym r) ∙ g .1 .is-target) in
-      subst (OutcomeNames P ended none (setting s (g .0))) (g .1 .lowers)
-      (lower-names P ended none (setting s (g .0)) (g .0 .entry .fields) (subst (FieldsAre (λ n. P (part s n))) (sym (g .1 .ok .fields-are)) names))
+      subst (OutcomeNames P ended none (setting s (g .0))) (g .1 .lowered .lowers)
+      (lower-names P ended none (setting s (g .0)) (g .0 .entry .fields) (subst (FieldsAre (λ n. P (part s n))) (sym (g .1 .lowered .ok .fields-are)) names))
 
 -- by a test that no name of the record passes
 pub blocks-names-by : (P : Text → Type 0) (f : Text → Bool) → ((t : Text) → f t ≡ false → P t)
@@ -388,4 +388,4 @@ blocks-names s bs e = by (has-record s bs e)
     by : (h : Head) × (ds : List Declaration) × (readRecord s ≡ recordIs h ds) → BlocksNames NotKeyword bs
     by (h, ds, r) =
         all-names NotKeyword named-free empty-free s bs e h ds r
-        (all-usable s h ds r (tests-passed s bs e h ds r .0))
+        (all-usable s h ds r (no-keyword s bs e h ds r))

@@ -201,4 +201,5 @@ lower-counted c rows xs fit few = by (parseAll c new xs) (all-counted c rows new
 pub blocks-counted : (s : Text) (bs : List Block) → answer s ≡ accepted bs → (n : ℕ) × (n ≤ 64) × Counts 0 (numbersIn bs) n
 blocks-counted s bs e =
     let h = has-grounds s bs e in
-    subst OutcomeCounted (h .1 .lowers) (lower-counted (setting s (h .0)) (h .1 .ok .rows) (h .0 .entry .fields) (h .1 .ok .fit) (h .1 .ok .few))
+    let l = h .1 .lowered in
+    subst OutcomeCounted (l .lowers) (lower-counted (setting s (h .0)) (l .ok .rows) (h .0 .entry .fields) (l .ok .fit) (l .ok .few))

@@ -121,7 +121,7 @@ fn parse_other_field<'a>(
 
 // ---- all fields, and the end
 
-fn is_refused(verdict: Verdict) -> bool
+pub fn is_refused(verdict: Verdict) -> bool
     ensures { λ r. ⌜ r ≡ isRefused verdict ⌝ }
 {
     match verdict {

@@ -14,6 +14,7 @@ use Rattle.definitions.specs.Sizes.{Schema, newSchema}
 use Rattle.definitions.specs.Refusals.{anyKeyword, declarationsNames, keywordName, tooMany, duplicateName, unknownName, outOfRange, large, ragged, misstated, noTarget, refuseIf, verdict}
 use Rattle.definitions.specs.FieldParser.{refused}
 use Rattle.definitions.specs.Answer.{wrongLength, lowerRecord, answerRead, answer}
+use Rattle.definitions.specs.All.{refusedAll, allRecord, allRead, answerAll}
 use Rattle.definitions.specs.declared.Head.{Head}
 use Rattle.definitions.specs.declared.HeadRead.{HeadRead}
 use Rattle.definitions.specs.declared.Refusal.{Refusal}
@@ -69,30 +70,47 @@ verdict-parts s h ds schema =
 
 -- ---- a refusal by 1, 2, 16 or 3 to 6 is the record's
 
-lower-refused : (s : Text) (h : Head) (ds : List Declaration) (schema : Schema) (why : Refusal) → verdict s h ds schema ≡ Verdict.Refuse why
-    → lowerRecord s h ds schema ≡ refused why
-unfolding lowerRecord
-lower-refused s h ds schema why e = rw (e, lowerRecord)
+data Turned (s : Text) (why : Refusal) : Type 0 where
+  wrong : wrongLength s ≡ true → Refusal.RecordLength ≡ why → Turned s why
+  form : wrongLength s ≡ false → readRecord s ≡ noRecord → Refusal.RecordForm ≡ why → Turned s why
+  judged : (h : Head) (ds : List Declaration) → wrongLength s ≡ false → readRecord s ≡ recordIs h ds
+      → verdict s h ds (newSchema s ds) ≡ Verdict.Refuse why → Turned s why
 
-pub answer-refused : (s : Text) (why : Refusal) → reading s ≡ Reading.Refuse why → answer s ≡ refused why
-unfolding answer
-answer-refused s why e = by (wrongLength s) refl
+turned : (s : Text) (why : Refusal) → reading s ≡ Reading.Refuse why → Turned s why
+turned s why e = by (wrongLength s) refl
   where
     on-verdict : (h : Head) (ds : List Declaration) (v : Verdict) → firstVerdict s h ds ≡ v → readingOf h (length ds) v ≡ Reading.Refuse why
-        → lowerRecord s h ds (newSchema s ds) ≡ refused why
+        → verdict s h ds (newSchema s ds) ≡ Verdict.Refuse why
     on-verdict h ds Verdict.Pass ev k = absurd (let z : _≡_ {A = ℕ} 0 1 = cc in omega arith)
     on-verdict h ds (Verdict.Refuse w) ev k =
         let q : w ≡ why = cc in
-        lower-refused s h ds (newSchema s ds) why
-        (verdict-parts s h ds (newSchema s ds) ∙ ap (λ (v : Verdict). onVerdict v (laterVerdict s h (newSchema s ds))) (ev ∙ ap Verdict.Refuse q))
+        verdict-parts s h ds (newSchema s ds) ∙ ap (λ (v : Verdict). onVerdict v (laterVerdict s h (newSchema s ds))) (ev ∙ ap Verdict.Refuse q)
 
-    on-read : (r : RecordRead) → readingRead s r ≡ Reading.Refuse why → answerRead s r ≡ refused why
-    on-read noRecord k = let q : Refusal.RecordForm ≡ why = cc in ap refused q
-    on-read (recordIs h ds) k = on-verdict h ds (firstVerdict s h ds) refl k
+    on-read : wrongLength s ≡ false → (r : RecordRead) → readRecord s ≡ r → readingRead s r ≡ Reading.Refuse why → Turned s why
+    on-read w noRecord er k = Turned.form w er (let q : Refusal.RecordForm ≡ why = cc in q)
+    on-read w (recordIs h ds) er k = Turned.judged h ds w er (on-verdict h ds (firstVerdict s h ds) refl k)
 
-    by : (b : Bool) → wrongLength s ≡ b → answer s ≡ refused why
-    by true h = let q : Refusal.RecordLength ≡ why = cc (reading-wrong s h) in rw (answer, h, q)
-    by false h = rw (answer, h) (on-read (readRecord s) (sym (reading-right s h) ∙ e))
+    by : (b : Bool) → wrongLength s ≡ b → Turned s why
+    by true w = Turned.wrong w (let q : Refusal.RecordLength ≡ why = cc (reading-wrong s w) in q)
+    by false w = on-read w (readRecord s) refl (sym (reading-right s w) ∙ e)
+
+pub answer-refused : (s : Text) (why : Refusal) → reading s ≡ Reading.Refuse why → answer s ≡ refused why
+unfolding answer lowerRecord
+answer-refused s why e = by (turned s why e)
+  where
+    by : Turned s why → answer s ≡ refused why
+    by (Turned.wrong w q) = rw (answer, w, q)
+    by (Turned.form w r q) = rw (answer, w, r, q)
+    by (Turned.judged h ds w r v) = rw (answer, w, r, lowerRecord, v)
+
+pub all-refused : (s : Text) (why : Refusal) → reading s ≡ Reading.Refuse why → answerAll s ≡ refusedAll why
+unfolding answerAll allRecord
+all-refused s why e = by (turned s why e)
+  where
+    by : Turned s why → answerAll s ≡ refusedAll why
+    by (Turned.wrong w q) = rw (answerAll, w, q)
+    by (Turned.form w r q) = rw (answerAll, w, r, q)
+    by (Turned.judged h ds w r v) = rw (answerAll, w, r, allRecord, v)
 
 -- ---- a record that passes
 
@@ -187,6 +205,10 @@ reading-passed s t w h n e = by (wrongLength s) refl
 pub answer-passed : {s : Text} {h : Head} {n : ℕ} {t : Tables} → Passed s h n t → answer s ≡ lowerRecord s h (given t n) (newSchema s (given t n))
 unfolding answer
 answer-passed {s} p = rw (answer, p .right-length) (ap (answerRead s) (p .read))
+
+pub all-passed : {s : Text} {h : Head} {n : ℕ} {t : Tables} → Passed s h n t → answerAll s ≡ allRecord s h (given t n) (newSchema s (given t n))
+unfolding answerAll
+all-passed {s} p = rw (answerAll, p .right-length) (ap (allRead s) (p .read))
 
 pub verdict-passed : {s : Text} {h : Head} {n : ℕ} {t : Tables} → Passed s h n t → (schema : Schema) → verdict s h (given t n) schema ≡ laterVerdict s h schema
 verdict-passed {s} {h} {n} {t} p schema =

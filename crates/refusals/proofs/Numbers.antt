@@ -1,4 +1,4 @@
--- The number of a refusal is 17 at most.
+-- The number of a refusal is 19 at most.
 -- Assumes nothing.
 use mathlib.Core.Path.{_≡_, sym, ap, _∙_}
 use Prim.Native.Nat.{ℕ, _≤_}
@@ -6,7 +6,7 @@ use native.Mathlib.Omega.{arith}
 use Rattle.definitions.specs.Refusals.{number}
 use Rattle.definitions.specs.declared.Refusal.{Refusal}
 
-small : (why : Refusal) → number why ≤ 17
+small : (why : Refusal) → number why ≤ 19
 small Refusal.RecordLength = omega arith
 small Refusal.RecordForm = omega arith
 small Refusal.Keyword = omega arith
@@ -23,7 +23,8 @@ small Refusal.OctetBoundary = omega arith
 small Refusal.ScalarTooWide = omega arith
 small Refusal.UnsupportedOptional = omega arith
 small Refusal.MultipleUnknown = omega arith
+small Refusal.SectionTooLong = omega arith
 small Refusal.NoRoom = omega arith
 
-pub numbered : {why c : Refusal} {r : ℕ} → why ≡ c → r ≡ number c → (r ≡ number why) × (r ≤ 17)
+pub numbered : {why c : Refusal} {r : ℕ} → why ≡ c → r ≡ number c → (r ≡ number why) × (r ≤ 19)
 numbered {c} e h = (h ∙ ap number (sym e), omega (arith, small c, h))

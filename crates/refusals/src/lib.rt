@@ -1,4 +1,4 @@
-// The number of a refusal (document 01, 'The answer, and why a record is turned back'; 16 and 17: document 02), and the 64-bit number that a record comes
+// The number of a refusal (document 01, 'The answer, and why a record is turned back'; 16, 17 and 19: document 02), and the 64-bit number that a record comes
 // to which is turned back ('Modules': the answer times 2^32 plus the length, which is 0). Every program and every exported function numbers refusals by these.
 
 use definitions::Refusal;
@@ -7,7 +7,7 @@ ghost use Prim.Native.Nat.{_*_, _≤_, _^_};
 ghost use Rattle.definitions.specs.Refusals.{number};
 
 pub fn number_of(why: Refusal) -> u64
-    ensures { λ r. ⌜ (r ≡ number why) × (r ≤ 17) ⌝ }
+    ensures { λ r. ⌜ (r ≡ number why) × (r ≤ 19) ⌝ }
 {
     match why {
         Refusal::RecordLength => 1,
@@ -26,6 +26,7 @@ pub fn number_of(why: Refusal) -> u64
         Refusal::ScalarTooWide => 12,
         Refusal::UnsupportedOptional => 13,
         Refusal::MultipleUnknown => 14,
+        Refusal::SectionTooLong => 19,
         Refusal::NoRoom => 15,
     }
 }

@@ -28,7 +28,10 @@ same-length : tie.Need-same-length
 same-length c = search needs
 
 returns : tie.Need-returns
-returns c = read-refused (c .before .before .before .before .before .before .read-record .ensures) (c .before .before .why .given .1) (c .turned-back .ensures)
+returns c =
+    read-refused (c .before .before .before .before .before .before .read-record .ensures) _
+    (c .before .before .why .given .1)
+    (c .turned-back .ensures)
 
 same-length-2 : tie.Need-same-length-2
 same-length-2 c = search needs
@@ -42,6 +45,7 @@ returns-2 c =
     (c .before .before .before .before .before .before .before .before .before .before .before .before .read-record .ensures)
     (record { declarations = search needs; values = search needs; fields = search needs })
     (c .before .before .before .before .before .before .before .before .head .given .1)
+    _
     (c .before .before .lower-read .ensures)
 
 pub lower-in-spec : {M : Type 1} → statement M
