@@ -4,11 +4,8 @@
 
 use crate::answer::{answer, within, BUFFER};
 use crate::files::{filled, TYPES};
-use crate::marked::{self, of_length};
-use crate::marked_bits;
+use crate::marked::of_length;
 use crate::marked_divides;
-use crate::marked_raws;
-use crate::marked_trailing;
 use crate::record::Record;
 use crate::sections::{retargeted, sections, whole, Sections, LONGEST};
 use crate::sketch::record;
@@ -53,14 +50,7 @@ fn front_of(record: &[u8]) -> String {
 
 /// In every other marked record.
 fn in_other_records() {
-    let all = [
-        marked::records(),
-        marked::keyword_records(),
-        marked_bits::records(),
-        marked_trailing::records(),
-        marked_raws::records(),
-        marked_divides::records(),
-    ];
+    let all = [marked_divides::records_before(), marked_divides::records()];
     all.concat().iter().for_each(|record| beside_single_calls(record));
 }
 

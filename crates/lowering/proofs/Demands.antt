@@ -73,19 +73,42 @@ ties s out r left number buffer small =
 
 -- ==== What a build host reads off the number
 
--- the lines are short, or there are none
-data Shape (l : Lowered) : Type 0 where
-  short : l .answered ≡ 0 → length (l .lines) ≤ mostBytes → Shape l
-  none : l .lines ≡ [] → Shape l
+-- there are at most so many bytes of lines, or none
+data Shape (most : ℕ) (l : Lowered) : Type 0 where
+  short : l .answered ≡ 0 → length (l .lines) ≤ most → Shape most l
+  none : l .lines ≡ [] → Shape most l
 
-shape : (room : ℕ) (o : Outcome) → OutcomeFits mostBytes o → Shape (lowered room o)
-unfolding lowered fitted
-shape room (refused why) h = Shape.none refl
-shape room (accepted bs) h = by (leb (length (render (program bs))) room)
+shape-fitted : (most room : ℕ) (t : Text) → length t ≤ most → Shape most (fitted room t)
+unfolding fitted
+shape-fitted most room t h = by (leb (length t) room)
   where
-    by : (b : Bool) → Shape (elim b [ true ↦ record { answered = 0; lines = render (program bs) } | false ↦ turnedBack Refusal.NoRoom ])
+    by : (b : Bool) → Shape most (elim b [ true ↦ record { answered = 0; lines = t } | false ↦ turnedBack Refusal.NoRoom ])
     by true = Shape.short refl h
     by false = Shape.none refl
+
+-- what both exported functions' numbers say
+record Parts (l : Lowered) (out : Text) (r : ℕ) (left : Text) : Type 0 where
+  answer-is : r / 2 ^ 32 ≡ l .answered
+  length-is : r % 2 ^ 32 ≡ length (l .lines)
+  refused-unchanged : 2 ^ 32 ≤ r → left ≡ out
+
+parts : (most : ℕ) → most < 2 ^ 32 → (l : Lowered) → Shape most l
+    → (out : Text) (r : ℕ) (left : Text) → r ≡ word l → left ≡ bufferAfter l out → Parts l out r left
+parts most w l (Shape.short e h) out r left number buffer = record {
+  answer-is = omega (arith, number, e, h, w);
+  length-is = omega (arith, number, e, h, w);
+  refused-unchanged = λ k. absurd (omega (arith, number, e, h, w, k));
+}
+parts most w l (Shape.none e) out r left number buffer = record {
+  answer-is = omega (arith, number, ap length e);
+  length-is = omega (arith, number, ap length e);
+  refused-unchanged = λ k. buffer ∙ ap (λ (t : Text). t ++ drop (length t) out) e;
+}
+
+shape : (room : ℕ) (o : Outcome) → OutcomeFits mostBytes o → Shape mostBytes (lowered room o)
+unfolding lowered
+shape room (refused why) h = Shape.none refl
+shape room (accepted bs) h = shape-fitted mostBytes room (render (program bs)) h
 
 -- The two parts of the number are the answer and the length, and a record that is turned back changes no byte. No record needs more than 65,536 bytes, and
 -- 19 is `lower_all`'s alone.
@@ -99,22 +122,14 @@ pub record Read (s out : Text) (r : ℕ) (left : Text) : Type 0 where
 pub reads : (s out : Text) (r : ℕ) (left : Text)
     → r ≡ word (lower s (length out)) → left ≡ bufferAfter (lower s (length out)) out
     → Read s out r left
-reads s out r left number buffer = by (shape (length out) (answer s) (fits s))
-  where
-    by : Shape (lower s (length out)) → Read s out r left
-    by (Shape.short e h) = record {
-      answer-is = omega (arith, number, e, h);
-      length-is = omega (arith, number, e, h);
-      refused-unchanged = λ w. absurd (omega (arith, number, e, h, w));
-      never-15 = λ w g. omega (arith, number, e, h, g);
-      no-section = λ g. omega (arith, number, e, h, g);
-    }
-    by (Shape.none e) = record {
-      answer-is = omega (arith, number, ap length e);
-      length-is = omega (arith, number, ap length e);
-      refused-unchanged = λ w. buffer ∙ ap (λ (t : Text). t ++ drop (length t) out) e;
-      never-15 = λ w g. enough s (length out) w (omega (arith, number, ap length e, g));
-      no-section = λ g. never-19 s (length out) (omega (arith, number, ap length e, g));
+reads s out r left number buffer =
+    let p = parts mostBytes (omega arith) (lower s (length out)) (shape (length out) (answer s) (fits s)) out r left number buffer in
+    record {
+      answer-is = p .answer-is;
+      length-is = p .length-is;
+      refused-unchanged = p .refused-unchanged;
+      never-15 = λ w g. enough s (length out) w (sym (p .answer-is) ∙ g);
+      no-section = λ g. never-19 s (length out) (sym (p .answer-is) ∙ g);
     }
 
 -- ==== `lower_all` (document 02, Card 13)
@@ -156,22 +171,13 @@ ties-all s out r left number buffer small =
         same : r ≡ length (sectionsText xs)
         same = omega (arith, number, small, ap length l)
 
--- the whole is short, or there is none
-data ShapeAll (l : Lowered) : Type 0 where
-  short : l .answered ≡ 0 → length (l .lines) ≤ mostAll → ShapeAll l
-  none : l .lines ≡ [] → ShapeAll l
-
-shape-all : (s : Text) (room : ℕ) → ShapeAll (lowerAll s room)
-unfolding loweredAll fitted
+shape-all : (s : Text) (room : ℕ) → Shape mostAll (lowerAll s room)
+unfolding loweredAll
 shape-all s room = by (answerAll s) refl
   where
-    by : (o : Outcomes) → answerAll s ≡ o → ShapeAll (loweredAll room o)
-    by (refusedAll why) e = ShapeAll.none refl
-    by (acceptedAll xs) e = on (leb (length (sectionsText xs)) room)
-      where
-        on : (b : Bool) → ShapeAll (elim b [ true ↦ record { answered = 0; lines = sectionsText xs } | false ↦ turnedBack Refusal.NoRoom ])
-        on true = ShapeAll.short refl (longest-whole s xs e)
-        on false = ShapeAll.none refl
+    by : (o : Outcomes) → answerAll s ≡ o → Shape mostAll (loweredAll room o)
+    by (refusedAll why) e = Shape.none refl
+    by (acceptedAll xs) e = shape-fitted mostAll room (sectionsText xs) (longest-whole s xs e)
 
 -- The two parts of the number are the answer and the length, and a file that is turned back changes no byte. No file needs more than 263,520 bytes.
 pub record ReadAll (s out : Text) (r : ℕ) (left : Text) : Type 0 where
@@ -183,18 +189,11 @@ pub record ReadAll (s out : Text) (r : ℕ) (left : Text) : Type 0 where
 pub reads-all : (s out : Text) (r : ℕ) (left : Text)
     → r ≡ word (lowerAll s (length out)) → left ≡ bufferAfter (lowerAll s (length out)) out
     → ReadAll s out r left
-reads-all s out r left number buffer = by (shape-all s (length out))
-  where
-    by : ShapeAll (lowerAll s (length out)) → ReadAll s out r left
-    by (ShapeAll.short e h) = record {
-      answer-is = omega (arith, number, e, h);
-      length-is = omega (arith, number, e, h);
-      refused-unchanged = λ w. absurd (omega (arith, number, e, h, w));
-      never-15 = λ w g. omega (arith, number, e, h, g);
-    }
-    by (ShapeAll.none e) = record {
-      answer-is = omega (arith, number, ap length e);
-      length-is = omega (arith, number, ap length e);
-      refused-unchanged = λ w. buffer ∙ ap (λ (t : Text). t ++ drop (length t) out) e;
-      never-15 = λ w g. enough-all s (length out) w (omega (arith, number, ap length e, g));
+reads-all s out r left number buffer =
+    let p = parts mostAll (omega arith) (lowerAll s (length out)) (shape-all s (length out)) out r left number buffer in
+    record {
+      answer-is = p .answer-is;
+      length-is = p .length-is;
+      refused-unchanged = p .refused-unchanged;
+      never-15 = λ w g. enough-all s (length out) w (sym (p .answer-is) ∙ g);
     }

@@ -11,20 +11,18 @@ use lib.ListN.{length, drop}
 use lib.Seq.{sets-eq}
 use Rattle.definitions.specs.Bytes.{Text}
 use Rattle.definitions.specs.Refusals.{number}
-use Rattle.definitions.specs.Lines.{render}
-use Rattle.definitions.specs.Blocks.{program}
 use Rattle.definitions.specs.Sizes.{Schema, Annotated, annotateFields}
 use Rattle.definitions.specs.FieldParser.{Setting, Outcome, refused, accepted, checkCode, sizeBacking, parseAll, lowerFields}
 use Rattle.definitions.specs.Answer.{turnedBack, lowered, fitted}
 use Rattle.definitions.specs.Answer.{Lowered as Answered}
-use Rattle.definitions.specs.All.{Outcomes, refusedAll, acceptedAll, sectionsText, lowerEach, loweredAll}
+use Rattle.definitions.specs.All.{Outcomes, refusedAll, acceptedAll, lowerEach, loweredAll}
 use Rattle.definitions.specs.declared.Head.{Head}
 use Rattle.definitions.specs.declared.Options.{Options}
 use Rattle.definitions.specs.declared.Part.{Part}
 use Rattle.definitions.specs.declared.Refusal.{Refusal}
 use Rattle.definitions.specs.declared.Verdict.{Verdict}
 use Rattle.text.specs.Put.{Put}
-use Rattle.stream.specs.Stream.{rendered, fresh}
+use Rattle.stream.specs.Stream.{Result, refuses, writes, rendered, fresh}
 use Rattle.tables.specs.Tables.{fieldsFrom, Tables, fieldsOf}
 use Rattle.emits.specs.Target.{settingAt, restAt, Fine}
 use Rattle.plans.specs.Planned.{Planned}
@@ -91,12 +89,22 @@ module _ (d : Told) {buf left : Text} {l : Lowered} (st : Tells d buf 0 l left) 
 
 -- ---- the outcome of the target's fields
 
-told-lowered : (room : ℕ) (o : Outcome) (v : Verdict) (t : Text) → rendered o ≡ resultBy v t → lowered room o ≡ loweredBy room v t
+-- a result, with 15 on top
+abbrev resultIn : ℕ → Result → Answered
+resultIn room (refuses why) = turnedBack why
+resultIn room (writes t) = fitted room t
+
+told-in : (room : ℕ) (v : Verdict) (t : Text) → resultIn room (resultBy v t) ≡ loweredBy room v t
+told-in room Verdict.Pass t = refl
+told-in room (Verdict.Refuse why) t = refl
+
+outcome-in : (room : ℕ) (o : Outcome) → lowered room o ≡ resultIn room (rendered o)
 unfolding lowered
-told-lowered room (refused w) (Verdict.Refuse why) t e = let q : w ≡ why = cc in ap turnedBack q
-told-lowered room (refused w) Verdict.Pass t e = absurd (let z : _≡_ {A = ℕ} 0 1 = cc in omega arith)
-told-lowered room (accepted bs) (Verdict.Refuse why) t e = absurd (let z : _≡_ {A = ℕ} 0 1 = cc in omega arith)
-told-lowered room (accepted bs) Verdict.Pass t e = let q : render (program bs) ≡ t = cc in ap (fitted room) q
+outcome-in room (refused why) = refl
+outcome-in room (accepted bs) = refl
+
+told-lowered : (room : ℕ) (o : Outcome) (v : Verdict) (t : Text) → rendered o ≡ resultBy v t → lowered room o ≡ loweredBy room v t
+told-lowered room o v t e = outcome-in room o ∙ ap (resultIn room) e ∙ told-in room v t
 
 told-answers : (o : Outcome) (d : Told) → rendered o ≡ resultOf d → {out left : Text} {r : ℕ} → AnswersTold d out r left → Answers o out r left
 told-answers o d e {out} {left} {r} a = record {
@@ -106,18 +114,19 @@ told-answers o d e {out} {left} {r} a = record {
 
 -- ---- the outcome of all targets
 
-each-lowered : (room : ℕ) (o : Outcomes) (v : Verdict) (t : Text) → renderedAll o ≡ resultBy v t → loweredAll room o ≡ loweredBy room v t
+outcomes-in : (room : ℕ) (o : Outcomes) → loweredAll room o ≡ resultIn room (renderedAll o)
 unfolding loweredAll
-each-lowered room (refusedAll w) (Verdict.Refuse why) t e = let q : w ≡ why = cc in ap turnedBack q
-each-lowered room (refusedAll w) Verdict.Pass t e = absurd (let z : _≡_ {A = ℕ} 0 1 = cc in omega arith)
-each-lowered room (acceptedAll xs) (Verdict.Refuse why) t e = absurd (let z : _≡_ {A = ℕ} 0 1 = cc in omega arith)
-each-lowered room (acceptedAll xs) Verdict.Pass t e = let q : sectionsText xs ≡ t = cc in ap (fitted room) q
+outcomes-in room (refusedAll why) = refl
+outcomes-in room (acceptedAll xs) = refl
 
 pub each-answers : (s : Text) (h : Head) (es : Schema) {out left : Text} {r : ℕ} → AnswersTold (tellEach s (h .options) es) out r left
     → Gives (loweredAll (length out) (lowerEach s h es)) out r left
 each-answers s h es {out} {left} {r} a =
+    let d = tellEach s (h .options) es in
     subst (λ (l : Answered). Gives l out r left)
-    (sym (each-lowered (length out) (lowerEach s h es) (tellEach s (h .options) es .verdict) (tellEach s (h .options) es .lines) (each-told s h es))) a
+    (sym
+    (outcomes-in (length out) (lowerEach s h es) ∙ ap (resultIn (length out)) (each-told s h es) ∙ told-in (length out) (d .verdict) (d .lines)))
+    a
 
 -- ---- the plan of the target
 

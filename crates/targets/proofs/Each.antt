@@ -1,4 +1,4 @@
--- The loop over the declarations: what is written and what is left come to `tellEach` of all; and `tellEach` is `lowerEach` of the definitions.
+-- The loop over the declarations: what is written and what is left come to `tellEach` of all.
 -- Assumes nothing.
 use mathlib.Core.Bool.{Bool, true, false}
 use mathlib.Core.List.{[], _++_, append-assoc, append-nil}

@@ -1,5 +1,5 @@
 -- What the targets of a record tell, one after the other (document 02, Card 13): the text of their sections and, where one is refused, why, and what was
--- written before. proofs/Each has the law that this is `lowerEach` of the definitions.
+-- written before. proofs/Agree has the law that this is `lowerEach` of the definitions.
 -- Assumes nothing.
 use mathlib.Core.Bool.{true, false}
 use mathlib.Core.List.{[], _∷_, _++_}
