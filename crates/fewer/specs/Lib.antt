@@ -1,0 +1,2 @@
+-- What each holds is said in its first lines.
+pub mod Sound

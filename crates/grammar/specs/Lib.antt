@@ -1,0 +1,5 @@
+pub mod Choices
+pub mod Fragments
+pub mod Families
+pub mod Load
+pub mod Passing

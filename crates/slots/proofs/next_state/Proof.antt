@@ -1,0 +1,20 @@
+-- `slots::next_state` meets its contract.
+-- Assumes nothing.
+use borrow.Author.Needs.{needs}
+use Rattle.slots.proofs.next_state.Statement.{statement}
+use Rattle.slots.proofs.next_state.Tie as tie
+
+mul-result : tie.Need-mul-result
+mul-result c = search needs
+
+add-result : tie.Need-add-result
+add-result c = search needs
+
+cast-result : tie.Need-cast-result
+cast-result c = search needs
+
+returns : tie.Need-returns
+returns c = search needs
+
+pub next-state-spec : {M : Type 1} → statement M
+next-state-spec = tie.close (tie.spec mul-result add-result cast-result returns)
