@@ -35,6 +35,6 @@ abbrev pub printed : Asked → Text
 printed (Asked.Load start count) = load count start
 printed Asked.Other = []
 
--- what the program prints
-abbrev pub load-of : Text → Text
-load-of input = printed (askedBy input)
+-- what the program prints for an input
+abbrev pub loadFor : Text → Text
+loadFor input = printed (askedBy input)
