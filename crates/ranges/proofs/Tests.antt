@@ -1,6 +1,6 @@
 -- The exits of the tests for refusals 3 and 6 (`tooMany`, `outOfRange`).
 -- Assumes nothing.
-use Prim.Native.Nat.{ℕ, _+_, _*_, _-_, _≤_, _<_}
+use Prim.Native.Nat.{ℕ, _+_, _*_, _-_, _/_, _≤_, _<_}
 use mathlib.Core.Bool.{Bool, true, false, _||_}
 use mathlib.Core.List.{List, []}
 use mathlib.Core.Path.{_≡_, refl, sym, ap, _∙_}
@@ -19,6 +19,7 @@ use Rattle.definitions.specs.declared.FieldDesc.{FieldDesc}
 use Rattle.definitions.specs.declared.DeclDesc.{DeclDesc}
 use Rattle.definitions.specs.declared.Field.{Field}
 use Rattle.definitions.specs.declared.Decl.{Decl}
+use Rattle.tables.proofs.FieldKinds.{width-read, names-read}
 use Rattle.tables.proofs.Walks.{length-declarations, length-fields, any-fields-start, any-fields-end, any-fields-found, any-fields-turn, any-declarations-end, any-declarations-found, any-declarations-turn, any-declarations-false}
 use Rattle.ranges.specs.Ranges.{bare, badField, badNumbers}
 
@@ -108,13 +109,27 @@ module _ (w : MaybeNumber) (m : Modifier) (n : MaybeNumber) {a : Bool} (ea : a �
     pub array-count : b ≡ false → {c : Bool} → c ≡ badMaybe badCount n → c ≡ badMaybe badWidth w || badModifier m || badMaybe badCount n
     array-count h ec = rw (sym ea ∙ ha, sym eb ∙ h) ec
 
+-- a field by the number of its kind
+module _ (values : List ℕ) (at : ℕ) where
+  module _ {kind : ℕ} (ek : kind ≡ getD values (at / 16 * 17 + 1) 0) where
+    pub here-width : 3 ≤ kind → kind ≤ 8 → {w : ℕ} → w ≡ getD values (at / 16 * 17 + 4) 0 → {b : Bool} → b ≡ badWidth w → b ≡ badField (fieldHere values at)
+    here-width h l ew {b} eb =
+        let e : b ≡ badWidth (getD values (at / 16 * 17 + 4) 0) = eb ∙ ap badWidth ew in
+        width-read (λ d. b ≡ badNumber d) values at (omega arith) (omega arith) (λ p. e) (λ p. e) (λ p. e) (λ v. e) e (λ p. e)
+
+    pub here-none : 8 < kind → kind ≤ 11 → false ≡ badField (fieldHere values at)
+    here-none h l = names-read (λ d. false ≡ badNumber d) values at (omega arith) (omega arith) (λ p. refl) (λ p q. refl) (λ p q. refl)
+
+  pub here-read : {f : Field} → f ≡ fieldHere values at → {b : Bool} → b ≡ badNumber (f .desc) → b ≡ badField (fieldHere values at)
+  here-read ef eb = eb ∙ ap badField ef
+
 module _ (values fields : List ℕ) (j m k : ℕ) {e : Bool} (inv : any badField (fieldsFrom values fields (j + k) (m - k)) ≡ e) where
   pub field-end : m ≤ k → false ≡ e
   field-end h = any-fields-end badField values fields j m k inv h
 
-  module _ (h : k < m) {at : ℕ} (ea : at ≡ getD fields (j + k) 0) {f : Field} (ef : f ≡ fieldHere values at) {b : Bool} (eb : b ≡ badNumber (f .desc)) where
+  module _ (h : k < m) {at : ℕ} (ea : at ≡ getD fields (j + k) 0) {b : Bool} (eb : b ≡ badField (fieldHere values at)) where
     tested : badField (fieldHere values (getD fields (j + k) 0)) ≡ b
-    tested = sym (eb ∙ ap badField (ef ∙ ap (fieldHere values) ea))
+    tested = sym (eb ∙ ap (λ (p : ℕ). badField (fieldHere values p)) ea)
 
     pub field-found : b ≡ true → true ≡ e
     field-found hb = any-fields-found badField values fields j m k inv h (tested ∙ hb)

@@ -10,7 +10,7 @@ ghost use mathlib.Core.Bool.{false, _||_};
 ghost use Prim.Native.Nat.{_+_, _≤_};
 ghost use Rattle.definitions.specs.Bytes.{any};
 ghost use Rattle.definitions.specs.Refusals.{tooMany, outside, badWidth, badCount, badMaybe, badModifier, badNumber, badDecl, outOfRange};
-ghost use Rattle.tables.specs.Tables.{fieldsFrom, countHere, declarationIn, declarationsFrom};
+ghost use Rattle.tables.specs.Tables.{fieldHere, fieldsFrom, countHere, declarationIn, declarationsFrom};
 ghost use Rattle.ranges.specs.Ranges.{bare, badField, badNumbers};
 
 // ---- 3: more than 32 declarations, or one with more than 64 fields
@@ -110,6 +110,24 @@ fn bad_number(desc: FieldDesc) -> bool
     }
 }
 
+// The field whose place is `at`. The kinds 3 to 8 have a width, 9 to 11 no number; of those no more is read.
+fn bad_here(values: &[u64], at: usize) -> bool
+    ensures { λ r. ⌜ r ≡ badField (fieldHere (now (values .entry)) at) ⌝ }
+{
+    let kind = tables::kind_here(values, at);
+    if 3 <= kind {
+        if kind <= 8 {
+            return is_outside(1, 64, tables::number_here(values, at, 4));
+        }
+        if kind <= 11 {
+            return false;
+        }
+    }
+    let f = tables::field_here(values, at);
+    let desc = f.desc;
+    bad_number(desc)
+}
+
 // The width of a declaration.
 fn bad_decl(desc: DeclDesc) -> bool
     ensures { λ r. ⌜ r ≡ badDecl desc ⌝ }
@@ -135,9 +153,7 @@ fn bad_fields(values: &[u64], fields: &[u16], base: usize, n: usize) -> bool
     let mut k = 0;
     while k < n {
         let at = tables::get(fields, base + k);
-        let f = tables::field_here(values, at);
-        let desc = f.desc;
-        if bad_number(desc) {
+        if bad_here(values, at) {
             return true;
         }
         k += 1;

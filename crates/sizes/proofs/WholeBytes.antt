@@ -1,12 +1,12 @@
 -- Refusal 8: kind by kind, field by field, declaration by declaration.
 -- Assumes nothing.
 use Prim.Native.Nat.{ℕ, _+_, _*_, _-_, _/_, _≤_, _<_}
-use mathlib.Core.Bool.{Bool, true, false, _&&_, _||_}
+use mathlib.Core.Bool.{Bool, true, false, not, _&&_, _||_}
 use mathlib.Core.List.{List}
 use mathlib.Core.Path.{_≡_, refl, sym, ap, _∙_}
 use native.Mathlib.Nat.{sub-zero}
 use native.Mathlib.Omega.{arith}
-use borrow.Author.Tests.{eq-eqb, ne-eqb}
+use borrow.Author.Tests.{eq-eqb, ne-eqb, not-true}
 use lib.ListN.{getD}
 use Rattle.definitions.specs.Bytes.{Text, any}
 use Rattle.definitions.specs.Sizes.{Row, Entry, totalOf, enumOf}
@@ -81,25 +81,29 @@ module _ (s : Text) (rows : List Row) where
 -- ---- a field by the number of its kind
 
 module _ (s : Text) (rows : List Row) where
-  whole : (optional : Bool) (d : FieldDesc) → kindOf d < 8 → false ≡ raggedDesc s rows optional d
-  whole optional (FieldDesc.Checksum of) h = refl
-  whole optional (FieldDesc.Padding size) h = refl
-  whole optional (FieldDesc.Size of width) h = refl
-  whole optional (FieldDesc.Count of width) h = refl
-  whole optional (FieldDesc.ElementSize of width) h = refl
-  whole optional FieldDesc.Body h = refl
-  whole optional (FieldDesc.Payload modifier) h = refl
-  whole optional (FieldDesc.FixedScalar width value) h = refl
-  whole optional (FieldDesc.FixedEnum type tag) h = refl
-  whole optional (FieldDesc.Reserved width) h = refl
-  whole optional (FieldDesc.Array id width type modifier size) h = absurd (omega arith)
-  whole optional (FieldDesc.Scalar id width) h = absurd (omega arith)
-  whole optional (FieldDesc.Flag id) h = refl
-  whole optional (FieldDesc.Typedef id type) h = absurd (omega arith)
+  -- without a condition only an array is ragged
+  whole : (d : FieldDesc) → kindOf d < 13 → false ≡ raggedDesc s rows false d
+  whole (FieldDesc.Checksum of) h = refl
+  whole (FieldDesc.Padding size) h = refl
+  whole (FieldDesc.Size of width) h = refl
+  whole (FieldDesc.Count of width) h = refl
+  whole (FieldDesc.ElementSize of width) h = refl
+  whole FieldDesc.Body h = refl
+  whole (FieldDesc.Payload modifier) h = refl
+  whole (FieldDesc.FixedScalar width value) h = refl
+  whole (FieldDesc.FixedEnum type tag) h = refl
+  whole (FieldDesc.Reserved width) h = refl
+  whole (FieldDesc.Array id width type modifier size) h = absurd (omega arith)
+  whole (FieldDesc.Scalar id width) h = refl
+  whole (FieldDesc.Flag id) h = refl
+  whole (FieldDesc.Typedef id type) h = refl
 
   module _ (values : List ℕ) (at : ℕ) where
-    pub here-whole : {kind : ℕ} → kind ≡ getD values (at / 16 * 17 + 1) 0 → kind < 8 → false ≡ raggedField s rows (fieldHere values at)
-    here-whole ek h = whole (isOptional (fieldHere values at .cond)) (fieldHere values at .desc) (omega (arith, kind-read values at))
+    pub here-whole : {kind : ℕ} → kind ≡ getD values (at / 16 * 17 + 1) 0 → kind < 13 → {c : Cond} → c ≡ fieldHere values at .cond
+        → {o : Bool} → o ≡ isOptional c → not o ≡ true → false ≡ raggedField s rows (fieldHere values at)
+    here-whole ek h ec {o} eo ho =
+        whole (fieldHere values at .desc) (omega (arith, kind-read values at))
+        ∙ ap (λ (o : Bool). raggedDesc s rows o (fieldHere values at .desc)) (sym (not-true o ho) ∙ eo ∙ ap isOptional ec)
 
     pub here-read : {f : Field} → f ≡ fieldHere values at → {b : Bool} → b ≡ raggedField s rows f → b ≡ raggedField s rows (fieldHere values at)
     here-read ef eb = eb ∙ ap (raggedField s rows) ef

@@ -199,12 +199,15 @@ fn ragged_field(rec: &[u8], rows: &[u64], i: usize, f: Field) -> bool
     ragged_desc(rec, rows, i, is_optional(cond), desc)
 }
 
-// The field whose place is `at`. No kind below 8 is ragged; of those no more is read.
+// The field whose place is `at`. Without a condition only an array is ragged, whose kind is 13 or more; of others no more is read.
 fn ragged_here(rec: &[u8], rows: &[u64], i: usize, values: &[u64], at: usize) -> bool
     ensures { λ r. ⌜ r ≡ raggedField (now (rec .entry)) (rowsFrom (now (rows .entry)) 0 i) (fieldHere (now (values .entry)) at) ⌝ }
 {
-    if tables::kind_here(values, at) < 8 {
-        return false;
+    if tables::kind_here(values, at) < 13 {
+        let cond = tables::cond_here(values, at);
+        if !is_optional(cond) {
+            return false;
+        }
     }
     ragged_field(rec, rows, i, tables::field_here(values, at))
 }

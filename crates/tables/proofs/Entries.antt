@@ -116,8 +116,8 @@ module _ (t : List ℕ) where
   unfolding declHere
   bits-there i e = e
 
-  pub kind-past : (at : ℕ) → length t / 17 < at / 16 → 0 ≡ getD t (at / 16 * 17 + 1) 0
-  kind-past at h = sym (List·getD-eq-default t 0 (omega arith))
+  pub number-past : (at k : ℕ) → length t / 17 < at / 16 → 0 ≡ getD t (at / 16 * 17 + k) 0
+  number-past at k h = sym (List·getD-eq-default t 0 (omega arith))
 
   pub count-past : (i : ℕ) → length t / 13 < i → 0 ≡ getD t (i * 13 + 9) 0
   count-past i h = sym (List·getD-eq-default t 0 (omega arith))

@@ -1,6 +1,6 @@
 // The record as values: what the reader read, as numbers of two tables, so that no text is read twice. `rows` has 13 numbers for each declaration, `values`
 // 17 for each field at 17 * (its place / 16); `fields` (document 01, 'Form') has the places of the fields, 64 for each declaration. Each is written whole
-// and read back by one function, or a name, a kind or a condition alone; what is read back is what was written (proofs/Again).
+// and read back by one function, or a name, a number or a condition alone; what is read back is what was written (proofs/Again).
 
 use definitions::Cond;
 use definitions::Decl;
@@ -16,7 +16,7 @@ use definitions::Part;
 use definitions::Size;
 ghost use mathlib.Core.Path.{_≡_};
 ghost use mathlib.Core.List.{[], _∷_, _++_};
-ghost use Prim.Native.Nat.{_+_, _*_, _/_, _<_, _^_};
+ghost use Prim.Native.Nat.{_+_, _*_, _/_, _≤_, _<_, _^_};
 ghost use lib.ListN.{getD, set};
 ghost use lib.Seq.{sets};
 ghost use Rattle.definitions.specs.Record.{partOf};
@@ -295,15 +295,23 @@ pub fn field_here(values: &[u64], at: usize) -> Field
     field_at(values, e * 17)
 }
 
-// Its kind, of all its numbers the only one that is read: below 10 it has no type, and every number from 13 on is an array's.
-pub fn kind_here(values: &[u64], at: usize) -> u64
-    ensures { λ r. ⌜ r ≡ getD (now (values .entry)) (at / 16 * 17 + 1) 0 ⌝ }
+// Its number k, of all its numbers the only one that is read: 4 is the width of the kinds 3 to 8.
+pub fn number_here(values: &[u64], at: usize, k: usize) -> u64
+    requires { ⌜ k ≤ 16 ⌝ }
+    ensures { λ r. ⌜ r ≡ getD (now (values .entry)) (at / 16 * 17 + k) 0 ⌝ }
 {
     let e = at / 16;
     if values.len() / 17 < e {
         return 0;
     }
-    number(values, e * 17 + 1)
+    number(values, e * 17 + k)
+}
+
+// Its kind: below 10 it has no type, and every number from 13 on is an array's.
+pub fn kind_here(values: &[u64], at: usize) -> u64
+    ensures { λ r. ⌜ r ≡ getD (now (values .entry)) (at / 16 * 17 + 1) 0 ⌝ }
+{
+    number_here(values, at, 1)
 }
 
 // Its condition.

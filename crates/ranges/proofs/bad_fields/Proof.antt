@@ -25,11 +25,8 @@ add-get c = search needs
 get-requires : tie.Need-get-requires Inv-loop μ-loop
 get-requires c κs = search needs
 
-field-here-requires : tie.Need-field-here-requires Inv-loop μ-loop
-field-here-requires c κs = search needs
-
-bad-number-requires : tie.Need-bad-number-requires Inv-loop μ-loop
-bad-number-requires c κs = search needs
+bad-here-requires : tie.Need-bad-here-requires Inv-loop μ-loop
+bad-here-requires c κs = search needs
 
 returns : tie.Need-returns Inv-loop μ-loop
 returns c = search (field-found, needs)
@@ -55,8 +52,7 @@ bad-fields-spec =
     loop-holds
     add-get
     get-requires
-    field-here-requires
-    bad-number-requires
+    bad-here-requires
     returns
     add-k
     loop-less

@@ -8,6 +8,12 @@ use Rattle.sizes.proofs.ragged_here.Tie as tie
 kind-here-requires : tie.Need-kind-here-requires
 kind-here-requires c κs = search needs
 
+cond-here-requires : tie.Need-cond-here-requires
+cond-here-requires c κs = search needs
+
+is-optional-requires : tie.Need-is-optional-requires
+is-optional-requires c κs = search needs
+
 returns : tie.Need-returns
 returns c = search (here-whole, needs)
 
@@ -21,4 +27,13 @@ returns-2 : tie.Need-returns-2
 returns-2 c = search (here-read, needs)
 
 pub ragged-here-spec : {M : Type 1} → statement M
-ragged-here-spec = tie.close (tie.spec kind-here-requires returns field-here-requires ragged-field-requires returns-2)
+ragged-here-spec =
+    tie.close
+    (tie.spec
+    kind-here-requires
+    cond-here-requires
+    is-optional-requires
+    returns
+    field-here-requires
+    ragged-field-requires
+    returns-2)
