@@ -13,6 +13,7 @@ use Rattle.definitions.specs.Answer.{lowerIn, lowerRecord, answer, Lowered, low
 use Rattle.definitions.specs.All.{Outcomes, refusedAll, lowerEach, allRecord, answerAll, loweredAll, lowerAll}
 use Rattle.definitions.specs.declared.Head.{Head}
 use Rattle.definitions.specs.declared.Refusal.{Refusal}
+use Rattle.lengths.proofs.Longest.{longest}
 use Rattle.bits.proofs.Booleans.{or-right}
 use Rattle.tables.specs.Tables.{Tables}
 use Rattle.places.specs.Places.{given}
@@ -23,7 +24,7 @@ use Rattle.record.proofs.Answered.{Passed, answer-refused, all-refused, reading
 use Rattle.sizes.specs.Answers.{checkSizes, sizesVerdict}
 use Rattle.sizes.specs.declared.Sizing.{Sizing}
 use Rattle.sizes.proofs.Verdicts.{sizes-verdict}
-use Rattle.lowering.specs.Steps.{Gives, Answers, Few, lowerSized, allSized, sizedFor, lowerFor}
+use Rattle.lowering.specs.Steps.{Gives, Answers, Short, Few, lowerSized, allSized, sizedFor, lowerFor}
 use Rattle.lowering.specs.declared.Wanted.{Wanted}
 use Rattle.lowering.proofs.Passes.{refuses-all, refuses-each}
 
@@ -73,11 +74,11 @@ module _ {s : Text} {t u : Tables} {x : Reading} (k : OfRecord s t x u) where
     passes : Passed s h n u
     passes = subst (λ (v : Tables). Passed s h n v) (sym (k .tables)) (reading-passed s t w h n (sym (k .answer) ∙ hx))
 
-    -- 1 and 3 are not met
-    pub read-few : (length s ≤ 16384) × Few (u .rows) n
-    read-few = (
+    -- 1 and 3 are not met, and the record's lines are short
+    pub read-requires : (length s ≤ 16384) × (Few (u .rows) n × Short (lowerSized s h (newSchema s (given u n))))
+    read-requires = (
       ltb-false 16384 (length s) (or-right (eqb (length s) 0) (ltb 16384 (length s)) (passes .right-length)),
-      record { declarations = passes .few; fields = passes .short },
+      (record { declarations = passes .few; fields = passes .short }, subst Short (sym (sized-record s h n u passes)) (longest s)),
     )
 
     pub read-answers : (wanted : Wanted) {out left : Text} {r : ℕ} → Gives (sizedFor wanted (length out) s h (newSchema s (given u n))) out r left

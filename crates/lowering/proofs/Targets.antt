@@ -31,7 +31,7 @@ use Rattle.sizes.proofs.Fine.{entry-fine}
 use Rattle.emits.specs.Target.{settingAt, restAt, Fine}
 use Rattle.targets.specs.Told.{tellEach, AllFine}
 use Rattle.targets.proofs.Sections.{rest-all}
-use Rattle.lowering.specs.Steps.{Gives, Answers, AnswersTold, Few, lowerSized, allSized, sizedFor}
+use Rattle.lowering.specs.Steps.{Gives, Answers, AnswersTold, Short, Few, lowerSized, allSized, sizedFor}
 use Rattle.lowering.specs.declared.Wanted.{Wanted}
 use Rattle.lowering.proofs.Passes.{refuses-all, refuses-each, each-answers}
 
@@ -178,6 +178,10 @@ module _ (s : Text) (h : Head) (before v f : List ℕ) (n : ℕ) (rows : List �
         ∙ sym (lower-target s h rows v f 0 n)
         ∙ ap (lowerIn s h) same
         ∙ sym (sized-target s h schema i (sym (k .answer) ∙ hx))
+
+    pub target-short : Short (lowerSized s h schema) → {m : ℕ} → m ≡ count → Short (lowerFields (settingAt tables i m (h .options)) (restAt tables i m 0))
+    target-short short e =
+        subst (λ (m : ℕ). Short (lowerFields (settingAt tables i m (h .options)) (restAt tables i m 0))) (sym e) (subst Short (sym target-lowered) short)
 
     pub target-answers : {wanted : Wanted} → wanted ≡ Wanted.Target → {m : ℕ} → m ≡ count → {out left : Text} {r : ℕ}
         → Answers (lowerFields (settingAt tables i m (h .options)) (restAt tables i m 0)) out r left

@@ -6,11 +6,14 @@ use Prim.Native.Nat.{ℕ, _≤_, _<_}
 use lib.ListN.{length}
 use Rattle.definitions.specs.Bytes.{Text}
 use Rattle.definitions.specs.Sizes.{Schema}
-use Rattle.definitions.specs.FieldParser.{Outcome, refused}
+use Rattle.definitions.specs.Lines.{render}
+use Rattle.definitions.specs.Blocks.{Block, program}
+use Rattle.definitions.specs.FieldParser.{Outcome, refused, accepted}
 use Rattle.definitions.specs.Answer.{lowerIn, Lowered, turnedBack, fitted, lowered, lower, word, bufferAfter}
 use Rattle.definitions.specs.All.{Outcomes, refusedAll, lowerEach, loweredAll, lowerAll}
 use Rattle.definitions.specs.declared.Head.{Head}
 use Rattle.definitions.specs.declared.Verdict.{Verdict}
+use Rattle.lengths.specs.Shares.{mostBytes}
 use Rattle.plans.specs.Told.{Told}
 use Rattle.sizes.specs.Answers.{checkSizes}
 use Rattle.sizes.specs.declared.Sizing.{Sizing}
@@ -34,7 +37,17 @@ loweredBy room (Verdict.Refuse why) lines = turnedBack why
 abbrev pub AnswersTold : Told → Text → ℕ → Text → Type 0
 AnswersTold told out r left = Gives (loweredBy (length out) (told .verdict) (told .lines)) out r left
 
--- 7 to 9, and then the target
+-- ---- how long the lines are
+
+-- what is told fits into so many bytes
+abbrev pub ToldFits : ℕ → Told → Type 0
+ToldFits room told = told .verdict ≡ Verdict.Pass → length (told .lines) ≤ room
+
+-- an outcome whose lines fit into a buffer of 65,536 bytes, as every record's do (`longest` of crate lengths)
+abbrev pub Short : Outcome → Type 0
+Short o = (bs : List Block) → o ≡ accepted bs → length (render (program bs)) ≤ mostBytes
+
+-- ---- 7 to 9, and then the target
 unfoldable pub lowerSized : Text → Head → Schema → Outcome
 lowerSized s h schema = elim (checkSizes s h schema) [ Sizing.Target i ↦ lowerIn s h schema | Sizing.Refuse why ↦ refused why ]
 

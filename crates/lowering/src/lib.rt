@@ -26,7 +26,7 @@ ghost use Rattle.emits.specs.Target.{settingAt, restAt, Fine};
 ghost use Rattle.plans.specs.Told.{tell};
 ghost use Rattle.plans.specs.Plans.{plansFrom, Sound};
 ghost use Rattle.targets.specs.Told.{tellEach, AllFine};
-ghost use Rattle.lowering.specs.Steps.{Gives, Answers, AnswersTold, Few, sizedFor, lowerFor};
+ghost use Rattle.lowering.specs.Steps.{Gives, Answers, AnswersTold, ToldFits, Short, Few, lowerSized, sizedFor, lowerFor};
 
 // What is asked for: the lines of the head's target, or those of every packet and struct.
 enum Wanted {
@@ -58,7 +58,23 @@ fn write_plan(rec: &[u8], out: &mut [u8], options: Options, plan: [PlanAt; 64], 
     }
 }
 
-// The target, of n fields. Without fields it has no lines, and no plan is made.
+// The same in room for the lines, whatever they are: the verdict is found without them, and one pass writes them.
+fn write_at_once(rec: &[u8], out: &mut [u8], options: Options, plan: [PlanAt; 64], n: usize) -> u64
+    requires { ⌜ (n ≤ 64) × Sound plan n ⌝ }
+    ensures { λ r. let s : Text = now (rec .entry) in
+        ⌜ ((bits : Part → ℕ) → ToldFits (length (now (out .entry))) (tell options fresh (plansFrom options s bits plan 0 n))
+        → AnswersTold (tell options fresh (plansFrom options s bits plan 0 n)) (now (out .entry)) r (now (out .exit))) ⌝ }
+{
+    match parser::target_verdict(plan, n) {
+        Verdict::Refuse(why) => refusals::turned_back(why),
+        Verdict::Pass => {
+            let only = parser::lower_target(rec, out, 0, options, plan, n);
+            only.at as u64
+        }
+    }
+}
+
+// The target, of n fields. Without fields it has no lines, and no plan is made. No record has lines of more than 65,536 bytes (crate lengths).
 fn write_lines(
     rec: &[u8],
     out: &mut [u8],
@@ -69,7 +85,8 @@ fn write_lines(
     i: usize,
     n: usize,
 ) -> u64
-    requires { let t : Tables = tablesOf (now rec) (now rows) (now values) (now fields) in ⌜ Fine t i n ⌝ }
+    requires { let t : Tables = tablesOf (now rec) (now rows) (now values) (now fields) in
+        ⌜ Fine t i n × Short (lowerFields (settingAt t i n options) (restAt t i n 0)) ⌝ }
     ensures { λ r. let t : Tables = tablesOf (now (rec .entry)) (now (rows .entry)) (now (values .entry)) (now (fields .entry)) in
         ⌜ Answers (lowerFields (settingAt t i n options) (restAt t i n 0)) (now (out .entry)) r (now (out .exit)) ⌝ }
 {
@@ -77,7 +94,10 @@ fn write_lines(
         return 0;
     }
     let plan = planner::plan_target(rec, rows, values, fields, i, n, options);
-    write_plan(rec, out, options, plan, n)
+    if out.len() < 65536 {
+        return write_plan(rec, out, options, plan, n);
+    }
+    write_at_once(rec, out, options, plan, n)
 }
 
 // The sections of all n declarations, twice, as `write_plan` does.
@@ -122,7 +142,9 @@ fn lower_read(
     n: usize,
     wanted: Wanted,
 ) -> u64
-    requires { ⌜ (length (now rec) ≤ 16384) × Few (now rows) n ⌝ }
+    requires { let t : Tables = tablesOf (now rec) (now rows) (now values) (now fields) in
+        ⌜ (length (t .source) ≤ 16384) × (Few (t .rows) n
+        × Short (lowerSized (t .source) head (newSchema (t .source) (declarationsFrom (t .rows) (t .values) (t .fields) 0 n)))) ⌝ }
     ensures { λ r. let t : Tables = tablesOf (now (rec .entry)) (now (rows .entry)) (now (values .entry)) (now (fields .entry)) in
         ⌜ Gives (sizedFor wanted (length (now (out .entry))) (t .source) head (newSchema (t .source) (declarationsFrom (t .rows) (t .values) (t .fields) 0 n)))
         (now (out .entry)) r (now (out .exit)) ⌝ }
@@ -169,8 +191,16 @@ pub extern "C" fn lower(rec: &[u8], out: &mut [u8]) -> u64
         let mut values = [0u64; 1088];
         return lower_in(rec, out, &mut values, Wanted::Target);
     }
+    if rec.len() <= 2048 {
+        let mut values = [0u64; 2176];
+        return lower_in(rec, out, &mut values, Wanted::Target);
+    }
     if rec.len() <= 4096 {
         let mut values = [0u64; 4416];
+        return lower_in(rec, out, &mut values, Wanted::Target);
+    }
+    if rec.len() <= 8192 {
+        let mut values = [0u64; 8704];
         return lower_in(rec, out, &mut values, Wanted::Target);
     }
     let mut values = [0u64; 17408];

@@ -1,3 +1,4 @@
 pub mod Others
 pub mod Turns
 pub mod Drives
+pub mod Verdicts

@@ -1,1 +1,2 @@
 pub mod Driver
+pub mod Verdicts

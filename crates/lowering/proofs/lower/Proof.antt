@@ -53,6 +53,30 @@ same-length-4 c = search needs
 returns-4 : tie.Need-returns-4
 returns-4 c = search (gives-target, needs)
 
+slice-aggregate-lower-in-5 : tie.Need-slice-aggregate-lower-in-5
+slice-aggregate-lower-in-5 c = search needs
+
+lower-in-requires-5 : tie.Need-lower-in-requires-5
+lower-in-requires-5 c κs = search needs
+
+same-length-5 : tie.Need-same-length-5
+same-length-5 c = search needs
+
+returns-5 : tie.Need-returns-5
+returns-5 c = search (gives-target, needs)
+
+slice-aggregate-lower-in-6 : tie.Need-slice-aggregate-lower-in-6
+slice-aggregate-lower-in-6 c = search needs
+
+lower-in-requires-6 : tie.Need-lower-in-requires-6
+lower-in-requires-6 c κs = search needs
+
+same-length-6 : tie.Need-same-length-6
+same-length-6 c = search needs
+
+returns-6 : tie.Need-returns-6
+returns-6 c = search (gives-target, needs)
+
 pub lower-spec : {M : Type 1} → statement M
 lower-spec =
     tie.close
@@ -72,4 +96,12 @@ lower-spec =
     slice-aggregate-lower-in-4
     lower-in-requires-4
     same-length-4
-    returns-4)
+    returns-4
+    slice-aggregate-lower-in-5
+    lower-in-requires-5
+    same-length-5
+    returns-5
+    slice-aggregate-lower-in-6
+    lower-in-requires-6
+    same-length-6
+    returns-6)

@@ -1,6 +1,6 @@
 -- `lowering::lower_in` meets its contract, by the laws of Records.
 -- Assumes nothing.
-use Rattle.lowering.proofs.Records.{read-refused, read-few, read-answers}
+use Rattle.lowering.proofs.Records.{read-refused, read-requires, read-answers}
 use borrow.Author.Needs.{needs}
 use Rattle.lowering.proofs.lower_in.Statement.{statement}
 use Rattle.lowering.proofs.lower_in.Tie as tie
@@ -19,7 +19,7 @@ enum-known-head c = search needs
 
 lower-read-requires : tie.Need-lower-read-requires
 lower-read-requires c κs =
-    read-few
+    read-requires
     (c .before .before .before .before .before .before .before .before .before .read-record .ensures)
     (record { declarations = search needs; values = search needs; fields = search needs })
     (c .before .before .before .before .before .head .given .1)

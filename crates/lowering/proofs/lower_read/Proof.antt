@@ -1,6 +1,6 @@
 -- `lowering::lower_read` meets its contract, by the laws of Targets.
 -- Assumes nothing.
-use Rattle.lowering.proofs.Targets.{check-refused, target-fine, all-fine, target-answers, all-answers}
+use Rattle.lowering.proofs.Targets.{check-refused, target-fine, target-short, all-fine, target-answers, all-answers}
 use borrow.Author.Needs.{needs}
 use Rattle.lowering.proofs.lower_read.Statement.{statement}
 use Rattle.lowering.proofs.lower_read.Tie as tie
@@ -25,11 +25,11 @@ count-here-requires c κs = search needs
 
 write-lines-requires : tie.Need-write-lines-requires
 write-lines-requires c κs =
-    target-fine _ _ _ _ _ _ _
-    (c .before .before .before .before .before .before .before .before .before .before .before .before .check-sizes .ensures)
-    (c .before .before .before .before .before .before .before .before .before .before .i .given .1)
-    (c .before .before .before .before .before .before .before .before .before .before .before .before .before .before .before .before .before .before .pre .1)
-    (c .before .before .before .before .count-here .ensures)
+    let checked = c .before .before .before .before .before .before .before .before .before .before .before .before .check-sizes .ensures in
+    let here = c .before .before .before .before .before .before .before .before .before .before .i .given .1 in
+    let pre = c .before .before .before .before .before .before .before .before .before .before .before .before .before .before .before .before .before .before .pre in
+    let count = c .before .before .before .before .count-here .ensures in
+    (target-fine _ _ _ _ _ _ _ checked here (pre .1 .0) count, target-short _ _ _ _ _ _ _ checked here (pre .1 .1) count)
 
 enum-told-2 : tie.Need-enum-told-2
 enum-told-2 c = search needs
@@ -39,7 +39,7 @@ write-sections-requires c κs =
     all-fine _ _ _ _ _ _ _
     (c .before .before .before .before .before .before .before .before .before .check-sizes .ensures)
     (c .before .before .before .before .before .before .before .i .given .1)
-    (c .before .before .before .before .before .before .before .before .before .before .before .before .before .before .before .pre .1)
+    (c .before .before .before .before .before .before .before .before .before .before .before .before .before .before .before .pre .1 .0)
     (c .before .before .before .before .before .before .before .before .before .before .before .before .before .before .before .pre .0)
 
 returns : tie.Need-returns
