@@ -65,7 +65,7 @@ fn write_at_once(rec: &[u8], out: &mut [u8], options: Options, plan: [PlanAt; 64
         ⌜ ((bits : Part → ℕ) → ToldFits (length (now (out .entry))) (tell options fresh (plansFrom options s bits plan 0 n))
         → AnswersTold (tell options fresh (plansFrom options s bits plan 0 n)) (now (out .entry)) r (now (out .exit))) ⌝ }
 {
-    match parser::target_verdict(plan, n) {
+    match verdicts::target_verdict(plan, n) {
         Verdict::Refuse(why) => refusals::turned_back(why),
         Verdict::Pass => {
             let only = parser::lower_target(rec, out, 0, options, plan, n);

@@ -1,4 +1,3 @@
 pub mod Others
 pub mod Turns
 pub mod Drives
-pub mod Verdicts

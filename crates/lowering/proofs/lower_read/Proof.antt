@@ -25,11 +25,13 @@ count-here-requires c κs = search needs
 
 write-lines-requires : tie.Need-write-lines-requires
 write-lines-requires c κs =
-    let checked = c .before .before .before .before .before .before .before .before .before .before .before .before .check-sizes .ensures in
+    let sized = c .before .before .before .before .before .before .before .before .before .before .before .before in
     let here = c .before .before .before .before .before .before .before .before .before .before .i .given .1 in
-    let pre = c .before .before .before .before .before .before .before .before .before .before .before .before .before .before .before .before .before .before .pre in
-    let count = c .before .before .before .before .count-here .ensures in
-    (target-fine _ _ _ _ _ _ _ checked here (pre .1 .0) count, target-short _ _ _ _ _ _ _ checked here (pre .1 .1) count)
+    let pre = sized .before .before .before .before .before .before .pre in
+    let count = c .before .before .before .before .count-here .ensures in (
+      target-fine _ _ _ _ _ _ _ (sized .check-sizes .ensures) here (pre .1 .0) count,
+      target-short _ _ _ _ _ _ _ (sized .check-sizes .ensures) here (pre .1 .1) count,
+    )
 
 enum-told-2 : tie.Need-enum-told-2
 enum-told-2 c = search needs

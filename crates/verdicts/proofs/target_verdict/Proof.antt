@@ -1,11 +1,10 @@
--- `parser::target_verdict` meets its contract, by the laws of proofs/Verdicts.
+-- `verdicts::target_verdict` meets its contract, by the laws of proofs/Verdicts.
 -- Assumes nothing.
 use Prim.Native.Nat.{_-_}
-use native.Mathlib.Omega.{arith}
-use Rattle.parser.proofs.Verdicts.{Counting, counting-starts, judged, counted-all, entry-fits, entry-refused, entry-passed}
+use Rattle.verdicts.proofs.Verdicts.{Counting, counting-starts, judged, counted-all, entry-fits, entry-refused, entry-passed}
 use borrow.Author.Needs.{needs}
-use Rattle.parser.proofs.target_verdict.Statement.{statement}
-use Rattle.parser.proofs.target_verdict.Tie as tie
+use Rattle.verdicts.proofs.target_verdict.Statement.{statement}
+use Rattle.verdicts.proofs.target_verdict.Tie as tie
 
 abbrev Inv-loop : tie.InvT-loop
 Inv-loop n plan t₀ k₀ t k = Counting plan n k t

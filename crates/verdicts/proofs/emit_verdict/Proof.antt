@@ -1,9 +1,9 @@
--- `parser::emit_verdict` meets its contract, by the laws of proofs/Verdicts.
+-- `verdicts::emit_verdict` meets its contract, by the laws of proofs/Verdicts.
 -- Assumes nothing.
-use Rattle.parser.proofs.Verdicts.{emit-as}
+use Rattle.verdicts.proofs.Verdicts.{emit-as}
 use borrow.Author.Needs.{needs}
-use Rattle.parser.proofs.emit_verdict.Statement.{statement}
-use Rattle.parser.proofs.emit_verdict.Tie as tie
+use Rattle.verdicts.proofs.emit_verdict.Statement.{statement}
+use Rattle.verdicts.proofs.emit_verdict.Tie as tie
 
 enum-told : tie.Need-enum-told
 enum-told c = search needs

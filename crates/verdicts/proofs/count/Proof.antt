@@ -1,9 +1,9 @@
--- `parser::count` meets its contract, by the laws of proofs/Verdicts.
+-- `verdicts::count` meets its contract, by the laws of proofs/Verdicts.
 -- Assumes nothing.
-use Rattle.parser.proofs.Verdicts.{bits-fit, counts-as, counts-other}
+use Rattle.verdicts.proofs.Verdicts.{bits-fit, counts-as, counts-other}
 use borrow.Author.Needs.{needs}
-use Rattle.parser.proofs.count.Statement.{statement}
-use Rattle.parser.proofs.count.Tie as tie
+use Rattle.verdicts.proofs.count.Statement.{statement}
+use Rattle.verdicts.proofs.count.Tie as tie
 
 enum-known-here : tie.Need-enum-known-here
 enum-known-here c = search needs

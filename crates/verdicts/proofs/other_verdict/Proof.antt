@@ -1,9 +1,9 @@
--- `parser::other_verdict` meets its contract, by the laws of proofs/Verdicts.
+-- `verdicts::other_verdict` meets its contract, by the laws of proofs/Verdicts.
 -- Assumes nothing.
-use Rattle.parser.proofs.Verdicts.{other-open, other-misplaced, other-emits}
+use Rattle.verdicts.proofs.Verdicts.{other-open, other-misplaced, other-emits}
 use borrow.Author.Needs.{needs}
-use Rattle.parser.proofs.other_verdict.Statement.{statement}
-use Rattle.parser.proofs.other_verdict.Tie as tie
+use Rattle.verdicts.proofs.other_verdict.Statement.{statement}
+use Rattle.verdicts.proofs.other_verdict.Tie as tie
 
 check-code-requires : tie.Need-check-code-requires
 check-code-requires c κs = search needs

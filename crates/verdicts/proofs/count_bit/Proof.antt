@@ -1,9 +1,9 @@
--- `parser::count_bit` meets its contract, by the laws of proofs/Verdicts.
+-- `verdicts::count_bit` meets its contract, by the laws of proofs/Verdicts.
 -- Assumes nothing.
-use Rattle.parser.proofs.Verdicts.{bit-wide, bit-closes, bit-opens}
+use Rattle.verdicts.proofs.Verdicts.{bit-wide, bit-closes, bit-opens}
 use borrow.Author.Needs.{needs}
-use Rattle.parser.proofs.count_bit.Statement.{statement}
-use Rattle.parser.proofs.count_bit.Tie as tie
+use Rattle.verdicts.proofs.count_bit.Statement.{statement}
+use Rattle.verdicts.proofs.count_bit.Tie as tie
 
 add-shift : tie.Need-add-shift
 add-shift c = search needs

@@ -20,17 +20,17 @@ use Rattle.bit_fields.specs.declared.KindAt.{KindAt}
 use Rattle.bit_fields.specs.Kinds.{kindIn}
 use Rattle.emits.specs.declared.EmitAt.{EmitAt}
 use Rattle.plans.specs.declared.PlanAt.{PlanAt}
-use Rattle.plans.specs.Planned.{Said, stops, Planned, bitsAhead}
+use Rattle.plans.specs.Planned.{Said, stops, bitsAhead}
 use Rattle.plans.specs.Told.{Advance, grownBits, bitAdvance, flushVerdict, onShift, saidAdvance, otherAdvance, advance, Told, joined, tell}
 use Rattle.plans.specs.Plans.{entryAt, plannedIn, plansFrom, widthBy, widthsAt, Sound}
 use Rattle.plans.proofs.Entries.{widths-step}
 use Rattle.chunks.specs.Steps.{codeVerdict}
 use Rattle.chunks.proofs.Codes.{code-flushes}
-use Rattle.parser.specs.declared.Counted.{Counted}
-use Rattle.parser.specs.declared.Tally.{Tally}
 use Rattle.parser.specs.Driver.{saidIn, misplaced, isRefused}
-use Rattle.parser.specs.Verdicts.{noTally, emitVerdict, otherVerdict, bitBy, bitCounted, counted, orElse, verdictFrom, BitsFit}
 use Rattle.parser.proofs.Others.{not-refused}
+use Rattle.verdicts.specs.declared.Counted.{Counted}
+use Rattle.verdicts.specs.declared.Tally.{Tally}
+use Rattle.verdicts.specs.Verdicts.{noTally, emitVerdict, otherVerdict, bitBy, bitCounted, counted, orElse, verdictFrom, BitsFit}
 
 -- ---- one field, by the code's tests
 

@@ -11,9 +11,9 @@ use Rattle.emits.specs.declared.EmitAt.{EmitAt}
 use Rattle.plans.specs.Plans.{entryAt, widthBy}
 use Rattle.plans.specs.declared.PlanAt.{PlanAt}
 use Rattle.chunks.specs.Steps.{codeVerdict}
-use Rattle.parser.specs.declared.Counted.{Counted}
-use Rattle.parser.specs.declared.Tally.{Tally}
 use Rattle.parser.specs.Driver.{misplaced}
+use Rattle.verdicts.specs.declared.Counted.{Counted}
+use Rattle.verdicts.specs.declared.Tally.{Tally}
 
 abbrev pub noTally : Tally
 noTally = record { shift = 0; len = 0; pending = false }
