@@ -1,21 +1,17 @@
--- What each kind of field, of reference and of array size gives.
+-- What each kind of reference and of array size gives.
 -- Assumes nothing.
 use mathlib.Core.Bool.{Bool, true, false}
 use mathlib.Core.Path.{_≡_, sym, ap, _∙_}
 use Rattle.definitions.specs.Bytes.{Text, pick}
-use Rattle.definitions.specs.Sizes.{reference, isPayloadSize, isArraySize, isElementSize, countedBy, arraySize}
+use Rattle.definitions.specs.Sizes.{isPayloadSize, isArraySize, isElementSize, countedBy, arraySize}
 use Rattle.definitions.specs.declared.ArraySize.{ArraySize}
 use Rattle.definitions.specs.declared.Field.{Field}
-use Rattle.definitions.specs.declared.FieldDesc.{FieldDesc}
 use Rattle.definitions.specs.declared.MaybeNumber.{MaybeNumber}
 use Rattle.definitions.specs.declared.Part.{Part}
 use Rattle.definitions.specs.declared.Reference.{Reference}
 use Rattle.references.specs.Wanted.{wantedBy}
 use Rattle.references.specs.declared.Wanted.{Wanted}
 use mathlib.Core.List.{List}
-
-pub reference-as : {d c : FieldDesc} {r : Reference} → d ≡ c → r ≡ reference c → r ≡ reference d
-reference-as e h = h ∙ ap reference (sym e)
 
 module _ (s : Text) {by c : Reference} (e : by ≡ c) where
   pub payload-as : {b : Bool} → b ≡ isPayloadSize s c → b ≡ isPayloadSize s by

@@ -3,7 +3,6 @@
 
 use definitions::ArraySize;
 use definitions::Field;
-use definitions::FieldDesc;
 use definitions::MaybeNumber;
 use definitions::Part;
 use definitions::Reference;
@@ -38,37 +37,8 @@ pub fn field_in(values: &[u64], fields: &[u16], i: usize, k: usize) -> Field
     tables::field_here(values, place_in(fields, i, k))
 }
 
-pub fn reference(desc: FieldDesc) -> Reference
-    ensures { λ r. ⌜ r ≡ reference desc ⌝ }
-{
-    match desc {
-        FieldDesc::Checksum { field_id: _ } => Reference::None,
-        FieldDesc::Padding { size: _ } => Reference::None,
-        FieldDesc::Size { field_id, width } => Reference::Size { field_id, width },
-        FieldDesc::Count { field_id, width: _ } => Reference::Count { field_id },
-        FieldDesc::ElementSize { field_id, width: _ } => Reference::ElementSize { field_id },
-        FieldDesc::Body => Reference::None,
-        FieldDesc::Payload { size_modifier: _ } => Reference::None,
-        FieldDesc::FixedScalar { width: _, value: _ } => Reference::None,
-        FieldDesc::FixedEnum {
-            enum_id: _,
-            tag_id: _,
-        } => Reference::None,
-        FieldDesc::Reserved { width: _ } => Reference::None,
-        FieldDesc::Array {
-            id: _,
-            width: _,
-            type_id: _,
-            size_modifier: _,
-            size: _,
-        } => Reference::None,
-        FieldDesc::Scalar { id: _, width: _ } => Reference::None,
-        FieldDesc::Flag { id: _ } => Reference::None,
-        FieldDesc::Typedef { id: _, type_id: _ } => Reference::None,
-    }
-}
-
-// What field k refers to. Only the kinds 3 to 5, a size, a count and an element size, refer to a field; of others no more is read.
+// What field k refers to. Only the kinds 3 to 5, a size, a count and an element size, refer to a field: of these its name and a size's width are read, of
+// others no more.
 fn reference_in(values: &[u64], fields: &[u16], i: usize, k: usize) -> Reference
     ensures { λ r. ⌜ r ≡ reference (fieldHere (now (values .entry)) (getD (now (fields .entry)) (i * 64 + k) 0) .desc) ⌝ }
 {
@@ -80,9 +50,15 @@ fn reference_in(values: &[u64], fields: &[u16], i: usize, k: usize) -> Reference
     if 5 < kind {
         return Reference::None;
     }
-    let f = tables::field_here(values, at);
-    let desc = f.desc;
-    reference(desc)
+    let field_id = tables::name_here(values, at);
+    if kind == 3 {
+        let width = tables::number_here(values, at, 4);
+        return Reference::Size { field_id, width };
+    }
+    if kind == 4 {
+        return Reference::Count { field_id };
+    }
+    Reference::ElementSize { field_id }
 }
 
 // ---- a field that gives a size

@@ -119,5 +119,10 @@ module _ (t : List ℕ) where
   pub number-past : (at k : ℕ) → length t / 17 < at / 16 → 0 ≡ getD t (at / 16 * 17 + k) 0
   number-past at k h = sym (List·getD-eq-default t 0 (omega arith))
 
+  pub name-past : (at : ℕ) → length t / 17 < at / 16 → {r : Part} → r ≡ partOf (getD t (length t + 2) 0) (getD t (length t + 3) 0)
+      → r ≡ partOf (getD t (at / 16 * 17 + 2) 0) (getD t (at / 16 * 17 + 3) 0)
+  name-past at h e =
+      e ∙ rw (out (length t) 2 (omega arith), out (length t) 3 (omega arith), sym (number-past at 2 h), sym (number-past at 3 h))
+
   pub count-past : (i : ℕ) → length t / 13 < i → 0 ≡ getD t (i * 13 + 9) 0
   count-past i h = sym (List·getD-eq-default t 0 (omega arith))

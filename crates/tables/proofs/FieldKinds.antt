@@ -9,6 +9,7 @@ use native.Mathlib.Omega.{arith}
 use borrow.Author.Tests.{eqb-true, eqb-false, ltb-true, ltb-false}
 use lib.Dec.{ltb, eqb}
 use lib.ListN.{getD}
+use Rattle.definitions.specs.Record.{partOf}
 use Rattle.definitions.specs.declared.FieldDesc.{FieldDesc}
 use Rattle.definitions.specs.declared.Part.{Part}
 use Rattle.tables.specs.Words.{descWords, plainOf, descOf}
@@ -63,6 +64,12 @@ kind-read values place =
 module _ (P : FieldDesc → Type 0) (values : List ℕ) (place : ℕ) where
   abbrev number : ℕ → ℕ
   number k = getD values (place / 16 * 17 + k) 0
+
+  -- the kinds below 10 have a part, the numbers 2 and 3, and two numbers more
+  pub plain-read : (kind : ℕ) → kind < 10 → number 1 ≡ kind → P (plainOf kind (partOf (number 2) (number 3)) (number 4) (number 5))
+      → P (fieldHere values place .desc)
+  unfolding fieldHere descOf
+  plain-read kind l e h = under P (number 1) 10 _ _ (λ u. rw e h) (λ u. absurd (omega arith))
 
   -- the kinds 3 to 8 have a width, which is the number 4
   pub width-read : 3 ≤ number 1 → number 1 ≤ 8

@@ -314,6 +314,17 @@ pub fn kind_here(values: &[u64], at: usize) -> u64
     number_here(values, at, 1)
 }
 
+// Its first name, of all its numbers only the two of it.
+pub fn name_here(values: &[u64], at: usize) -> Part
+    ensures { λ r. ⌜ r ≡ partOf (getD (now (values .entry)) (at / 16 * 17 + 2) 0) (getD (now (values .entry)) (at / 16 * 17 + 3) 0) ⌝ }
+{
+    let e = at / 16;
+    if values.len() / 17 < e {
+        return part_at(values, values.len(), 2, 3);
+    }
+    part_at(values, e * 17, 2, 3)
+}
+
 // Its condition.
 pub fn cond_here(values: &[u64], at: usize) -> Cond
     ensures { λ r. ⌜ r ≡ fieldHere (now (values .entry)) at .cond ⌝ }

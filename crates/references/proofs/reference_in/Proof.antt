@@ -1,6 +1,6 @@
 -- `references::reference_in` meets its contract, by the laws of KindNumbers.
 -- Assumes nothing.
-use Rattle.references.proofs.KindNumbers.{refers-low, refers-high, refers-read}
+use Rattle.references.proofs.KindNumbers.{refers-low, refers-high, refers-size, refers-count, refers-element}
 use borrow.Author.Needs.{needs}
 use Rattle.references.proofs.reference_in.Statement.{statement}
 use Rattle.references.proofs.reference_in.Tie as tie
@@ -17,14 +17,20 @@ returns c = search (refers-low, needs)
 returns-2 : tie.Need-returns-2
 returns-2 c = search (refers-high, needs)
 
-field-here-requires : tie.Need-field-here-requires
-field-here-requires c κs = search needs
+name-here-requires : tie.Need-name-here-requires
+name-here-requires c κs = search needs
 
-reference-requires : tie.Need-reference-requires
-reference-requires c κs = search needs
+number-here-requires : tie.Need-number-here-requires
+number-here-requires c κs = search needs
 
 returns-3 : tie.Need-returns-3
-returns-3 c = search (refers-read, needs)
+returns-3 c = search (refers-size, needs)
+
+returns-4 : tie.Need-returns-4
+returns-4 c = search (refers-count, needs)
+
+returns-5 : tie.Need-returns-5
+returns-5 c = search (refers-element, needs)
 
 pub reference-in-spec : {M : Type 1} → statement M
 reference-in-spec =
@@ -34,6 +40,8 @@ reference-in-spec =
     kind-here-requires
     returns
     returns-2
-    field-here-requires
-    reference-requires
-    returns-3)
+    name-here-requires
+    number-here-requires
+    returns-3
+    returns-4
+    returns-5)
