@@ -23,6 +23,7 @@ mod families;
 mod features;
 mod files;
 mod generate;
+mod growth;
 mod histogram;
 mod keywords;
 mod later;
@@ -46,6 +47,7 @@ mod refusals;
 mod sections;
 mod sizes;
 mod sketch;
+mod speed;
 mod stated;
 mod timing;
 mod timing_all;
@@ -86,6 +88,8 @@ judge histogram < CASES              what the cases show
 judge survey SEED COUNT              the same for COUNT generated cases of each flavour
 judge bench SEED COUNT               nanoseconds for accepted records: COUNT mixed ones, and families
 judge bench-all                      nanoseconds for all targets at once and one by one, as they grow in number
+judge speed < LOAD                   nanoseconds for the accepted records of a load (docs/LOAD.md), all and by their size
+judge growth < LOAD                  nanoseconds as records grow in one thing, a point a line (see oracle/speed)
 judge compare SEED COUNT             the port against the judge, for one target and for all: all marked cases, and
                                      COUNT generated ones of each flavour (see oracle/compare)
 ";
@@ -121,6 +125,8 @@ fn main() -> Outcome {
         ["survey", seed, count] => survey(seed.parse()?, count.parse()?),
         ["bench", seed, count] => bench(seed.parse()?, count.parse()?),
         ["bench-all"] => bench_all(),
+        ["speed"] => speed(speed::print),
+        ["growth"] => speed(speed::print_growth),
         #[cfg(port)]
         ["compare", seed, count] => compare_port(seed.parse()?, count.parse()?),
         _ => {
@@ -271,6 +277,11 @@ fn bench(seed: u64, count: usize) -> Outcome {
 
 fn bench_all() -> Outcome {
     timing_all::print();
+    Ok(ExitCode::SUCCESS)
+}
+
+fn speed(print: fn(&[u8])) -> Outcome {
+    print(&read_all()?);
     Ok(ExitCode::SUCCESS)
 }
 
