@@ -1,5 +1,6 @@
 // `annotate_field` and the padded sizes (analyzer.rs), and what the fields of one declaration come to, in one pass over them. The declaration has the
 // index i: names are looked up in the i rows before, its fields are the n whose places `fields` has from 64 i on. What is over the limit is capped.
+#![tactic(auto)]
 
 ghost use Rattle.std.specs.Prelude.{◌≡◌, false, ◌||◌, ◌+◌, ◌*◌, ◌-◌};
 ghost use Rattle.definitions.specs.Bytes.{pick};
@@ -15,7 +16,7 @@ use definitions::{Cond, Field, FieldDesc, MaybeNumber, MaybePart, Part, Size};
 // ---- the size of a field
 
 // What the size of an array depends on.
-#[derive(Drop)]
+#[derive(Clone, Copy)]
 pub struct ArrayParts {
     pub id: Part,
     pub width: MaybeNumber,
@@ -210,7 +211,7 @@ pub fn padded_size(values: &[u64], fields: &[u16], i: usize, n: usize, k: usize)
 // ---- what the fields come to
 
 // A field is over the limit, the sum over the fields that are no payload, the size of the last payload, the sum of the static sizes.
-#[derive(Drop)]
+#[derive(Clone, Copy)]
 pub struct FieldSums {
     pub large: bool,
     pub sum: Size,

@@ -1,5 +1,6 @@
 // The arm of `parse` in cxx.rs for an array, as a value: what `parse_array_field_lite`, `parse_array_field_full` and `parse_array_element` ask of the
 // tables. The array is field k of the n that the declaration with the index i has from 64 i on; types are looked up among the declarations before it.
+#![tactic(auto)]
 
 ghost use Rattle.std.specs.Prelude.{◌≡◌, ◌<◌};
 ghost use Rattle.tables.specs.Tables.{rows_from, Tables, tables_of, rows_of, fields_of};
@@ -81,7 +82,7 @@ fn padded_bytes(
 }
 
 // The array as the record has it, and the target's byte order.
-#[derive(Drop)]
+#[derive(Clone, Copy)]
 pub struct ArrayField {
     pub id: Part,
     pub width: MaybeNumber,

@@ -1,5 +1,7 @@
 // The statements that the arrays of both modes share: checks and tests of a size, and the skip. Document 01, 'Lowering'; the divided check is document
 // 02's, Card 8.
+#![tactic(auto)]
+
 ghost use Rattle.text.specs.Put.{Put};
 ghost use Rattle.expressions.specs.Statements.{stmt_bytes};
 ghost use Rattle.array_lines.specs.Statements.{ragged_test, ragged_or_zero_test, skip_stmt, divided_stmt, product_stmt};

@@ -1,4 +1,6 @@
 // An array's lines: the size modifier, and the shape of the mode (document 01, 'Lowering').
+#![tactic(auto)]
+
 ghost use Rattle.definitions.specs.Bytes.{text as bytes};
 ghost use Rattle.definitions.specs.Blocks.{named};
 ghost use Rattle.text.specs.Put.{Put};
@@ -27,7 +29,7 @@ fn put_modifier(out: &mut [u8], at: usize, arrays: Arrays, id: &[u8], modifier: 
 }
 
 // What of an array its lines depend on, beside its names.
-#[derive(Drop)]
+#[derive(Clone, Copy)]
 pub struct ArrayShape {
     pub element: Element,
     pub modifier: Modifier,

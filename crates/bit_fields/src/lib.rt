@@ -1,5 +1,7 @@
 // The lines of one bit field, by what its bits are put into or held against: the arms of the `match` in `parse_bit_field` of cxx.rs.
 // A kind holds its names as parts of the record.
+#![tactic(auto)]
+
 ghost use Rattle.std.specs.Prelude.{◌++◌};
 ghost use Rattle.text.specs.Put.{Put};
 ghost use Rattle.bit_fields.specs.Kinds.{end_text, source_text, set_text, condition_text, open_enum_text, raw_text, tested_text, closed_enum_text, fixed_scalar_text, fixed_enum_text, kind_text};
@@ -8,7 +10,7 @@ use definitions::{Arrays, EndiannessValue, Part, Raw};
 use names::WrittenName;
 
 // What stands behind the name of a variable: `_`, `_size_`, `_count_`, `_element_size_`.
-#[derive(Drop)]
+#[derive(Clone, Copy)]
 pub enum End {
     Member,
     Size,
@@ -17,7 +19,7 @@ pub enum End {
 }
 
 // What a bit field's bits are put into, or held against.
-#[derive(Drop)]
+#[derive(Clone, Copy)]
 pub enum KindAt {
     Reserved,
     Number { name: WrittenName, end: End },
@@ -29,14 +31,14 @@ pub enum KindAt {
 }
 
 // The variable that a tested enum is held in: what the head says of its name, and how many tested enums the target has before it (document 02, Card 7).
-#[derive(Drop)]
+#[derive(Clone, Copy)]
 pub struct RawValue {
     pub raw: Raw,
     pub nr: u64,
 }
 
 // Where the bits come from: a read of so many bits, or a chunk's variable.
-#[derive(Drop)]
+#[derive(Clone, Copy)]
 pub enum Source {
     Read { order: EndiannessValue, width: u64 },
     Bits { nr: u64, shift: u64, mask: u64 },

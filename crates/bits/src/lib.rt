@@ -1,5 +1,6 @@
 // `Size` of analyzer.rs: its sums and products, tested against 2^31 - 1 bits (refusal 7), and as a number of a table. What is over the limit is
 // held as 2^31, so that nothing overflows and the test stays exact.
+#![tactic(auto)]
 
 ghost use Rattle.std.specs.Prelude.{◌≡◌, ◌+◌, ◌*◌, ◌<◌, ◌^◌, get_or, set};
 ghost use Rattle.definitions.specs.Sizes.{add_size, mul_size, given, outer_size, static_width};

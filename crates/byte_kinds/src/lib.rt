@@ -1,4 +1,5 @@
 // The kinds of fields of the record that are no bit fields (document 01, 'The record'): array, payload, body, padding and checksum.
+#![tactic(auto)]
 
 ghost use Rattle.std.specs.Prelude.{◌≡◌, drop};
 ghost use Rattle.definitions.specs.Record.{array_at, payload_at, padding_at, checksum_at, choose};

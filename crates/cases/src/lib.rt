@@ -1,6 +1,7 @@
 // The stored form of cases (oracle/README.md, 'Cases'): a line `ANSWER RECORD_LENGTH LINES_LENGTH`, the bytes of the record, the bytes of its
 // lines. A case is found at a place of a slice, where `Cut` says that more bytes are needed behind it. `next_case` finds the cases of a stream
 // that arrives in pieces, one after the other, in a window over it.
+#![tactic(auto)]
 
 ghost use Rattle.std.specs.Prelude.{◌≡◌, take};
 ghost use Rattle.cases.specs.Form.{numeral_at, parts_at, case_at, Slid};
@@ -12,7 +13,7 @@ use definitions::Part;
 // ---- a case in a slice
 
 // A number in the line of a case: its value and the place behind the byte that ends it.
-#[derive(Drop)]
+#[derive(Clone, Copy)]
 enum Numeral {
     Is(u64, usize),
     Cut,
@@ -20,7 +21,7 @@ enum Numeral {
 }
 
 // A case: the answer, and where its record and its lines stand. The next case begins where the lines end.
-#[derive(Drop)]
+#[derive(Clone, Copy)]
 pub enum Stored {
     Case {
         answer: u64,
@@ -122,7 +123,7 @@ pub fn case_at(s: &[u8], at: usize) -> Stored
 
 // The next case of a stream, where its record and its lines stand in the window, and up to where the window is filled; or its end, or that it
 // is no stream of cases. A case that is longer than the window breaks it off too.
-#[derive(Drop)]
+#[derive(Clone, Copy)]
 pub enum Next {
     Case {
         answer: u64,

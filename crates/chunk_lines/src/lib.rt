@@ -1,5 +1,7 @@
 // A chunk of bit fields, by value, and the lines of a closed one: the later part of `parse_bit_field` of cxx.rs. Document 01, 'Lowering': a chunk of
 // reserved fields only becomes one skip, a chunk of one field reads into it, a larger one into `chunk0`, `chunk1` and so on.
+#![tactic(auto)]
+
 ghost use Rattle.std.specs.Prelude.{◌≡◌, List, ℕ, ◌+◌, ◌≤◌, ◌<◌, ◌^◌};
 ghost use Rattle.definitions.specs.Bytes.{Text};
 ghost use Rattle.definitions.specs.Blocks.{Bit, raws_behind};
@@ -11,7 +13,7 @@ use bit_fields::{KindAt, RawValue, Source};
 use definitions::{EndiannessValue, Options};
 
 // The shifts and the widths of its fields.
-#[derive(Drop)]
+#[derive(Clone, Copy)]
 pub struct Chunk {
     pub shifts: [u64; 64],
     pub widths: [u64; 64],
@@ -19,14 +21,14 @@ pub struct Chunk {
 }
 
 // What one of its fields is: the kinds stand in an array beside the chunk.
-#[derive(Drop)]
+#[derive(Clone, Copy)]
 pub struct Held {
     pub kind: KindAt,
 }
 
 // A closed chunk as a whole: its number, how many tested enums are before it, its bits and their backing type, and whether all of its fields are
 // reserved.
-#[derive(Drop)]
+#[derive(Clone, Copy)]
 pub struct WholeChunk {
     pub nr: u64,
     pub raws: u64,
@@ -36,7 +38,7 @@ pub struct WholeChunk {
 }
 
 // The place behind a chunk's lines, and how many tested enums the target has up to there.
-#[derive(Drop)]
+#[derive(Clone, Copy)]
 pub struct Written {
     pub at: usize,
     pub raws: u64,

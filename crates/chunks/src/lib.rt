@@ -1,6 +1,8 @@
 // Chunks and their checks: what `parse_bit_field` does to its chunk, `check_size` and `check_code` of cxx.rs, with refusals 10 and 12 of document 01.
 // Chunk and state go in and come back by value; the kinds of the chunk's fields stay with the driver, which hands them over where the chunk closes.
 // A run's lines are not held back: its check is written before its first chunk, with the bits that follow in the run as `later`.
+#![tactic(auto)]
+
 ghost use Rattle.std.specs.Prelude.{List, [], ◌≡◌, ◌+◌, ◌<◌, ◌^◌};
 ghost use Rattle.definitions.specs.Bytes.{text};
 ghost use Rattle.definitions.specs.Blocks.{Bit};
@@ -17,7 +19,7 @@ use text::ScalarType;
 
 // What the parser keeps beside its open chunk: the chunk's bits, the number of the next chunk that has one, how many tested enums the closed chunks have,
 // and whether the present run has its check.
-#[derive(Drop)]
+#[derive(Clone, Copy)]
 pub struct State {
     pub shift: u64,
     pub nr: u64,
@@ -26,7 +28,7 @@ pub struct State {
 }
 
 // What a field comes to: the panic, the place behind what it wrote, and the state after it.
-#[derive(Drop)]
+#[derive(Clone, Copy)]
 pub struct Step {
     pub verdict: Verdict,
     pub at: usize,

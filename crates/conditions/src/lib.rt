@@ -1,6 +1,7 @@
 // `is_cond_for` (cxx.rs): whether a name stands behind the `if` of some field of the target. Like the Rust, the code goes through the fields once: it
 // gathers the `if` names in a table of their places in the record, name k at 2 k (its start) and 2 k + 1 (its end). The fields of the declaration with
 // the index i are the n whose places the table of fields has from 64 i on.
+#![tactic(auto)]
 
 ghost use Rattle.std.specs.Prelude.{List, ◌≡◌, ◌+◌, ◌*◌, ◌≤◌, length};
 ghost use Rattle.definitions.specs.declared.Part.{Part};

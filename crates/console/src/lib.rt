@@ -1,5 +1,6 @@
 // What a program around `lower` needs: bytes of a file, however they arrive, at a place of a buffer; the two parts of the number that `lower`
 // gives (document 01, 'Modules': the answer times 2 ^ 32 plus the length); and what it prints (document 01, 'Declarations on each side').
+#![tactic(auto)]
 
 ghost use Rattle.std.specs.Prelude.{◌≡◌, ◌+◌, ◌-◌, ◌/◌, ◌%◌, ◌^◌, min, length, take};
 ghost use Rattle.console.specs.Reads.{Filled, Came};
@@ -9,7 +10,7 @@ use libc::STDOUT_FILENO;
 // ---- reading
 
 // What reading comes to: the buffer is filled up to its end, or the input ended before, with the end of what is held, or a read failed.
-#[derive(Drop)]
+#[derive(Clone, Copy)]
 pub enum Input {
     Full(usize),
     Ended(usize),
@@ -17,7 +18,7 @@ pub enum Input {
 }
 
 // What one read comes to: some bytes at the front of the buffer, the end of the input, or a failure.
-#[derive(Drop)]
+#[derive(Clone, Copy)]
 enum Piece {
     Bytes(usize),
     End,

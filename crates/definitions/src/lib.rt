@@ -2,44 +2,45 @@
 // at a place, and the refusals of documents 01 and 02. What must be believed about the answer stands in specs/, in the order of document 01:
 // Bytes, Record, Sizes, Refusals, Lines, Blocks, FieldParser, Answer, and All (document 02, Card 13: `lower_all`). (Keywords: the words of refusal 16.
 // Tables: sizes as numbers of a table.)
+#![tactic(auto)]
 
 // ---- ast.rs: a name is a part of the record and is not copied; what may be absent is an enum of its own
 
 // The bytes of the record from start up to end.
-#[derive(Drop)]
+#[derive(Clone, Copy)]
 pub struct Part {
     pub start: usize,
     pub end: usize,
 }
 
-#[derive(Drop)]
+#[derive(Clone, Copy)]
 pub enum MaybePart {
     None,
     Some(Part),
 }
 
-#[derive(Drop)]
+#[derive(Clone, Copy)]
 pub enum MaybeNumber {
     None,
     Some(u64),
 }
 
 // `size_modifier`: a sign and a number.
-#[derive(Drop)]
+#[derive(Clone, Copy)]
 pub enum Modifier {
     None,
     Plus(u64),
     Minus(u64),
 }
 
-#[derive(Drop)]
+#[derive(Clone, Copy)]
 pub enum EndiannessValue {
     LittleEndian,
     BigEndian,
 }
 
 // `extract_arrays`: lite is false and has an empty target prefix, full is true and has `output->`.
-#[derive(Drop)]
+#[derive(Clone, Copy)]
 pub enum Arrays {
     Lite,
     Full,
@@ -47,7 +48,7 @@ pub enum Arrays {
 
 // What a padded array counts behind a payload: plain as cxx.rs has it, its field size; padded as the language reference has it, its padded size
 // (document 02, Card 3).
-#[derive(Drop)]
+#[derive(Clone, Copy)]
 pub enum Trailing {
     Plain,
     Padded,
@@ -55,7 +56,7 @@ pub enum Trailing {
 
 // What the variable of a tested enum bit field is called: plain as in cxx.rs, `raw_value`; numbered with its number among the target's behind it
 // (document 02, Card 7).
-#[derive(Drop)]
+#[derive(Clone, Copy)]
 pub enum Raw {
     Plain,
     Numbered,
@@ -63,14 +64,14 @@ pub enum Raw {
 
 // How an array's check asks whether A * B bytes are there: plain as in cxx.rs, by the product; divide by a division, which no count takes past its type
 // (document 02, Card 8).
-#[derive(Drop)]
+#[derive(Clone, Copy)]
 pub enum Products {
     Plain,
     Divide,
 }
 
 // What the head chooses beside the target, handed on whole from the reader to the writer.
-#[derive(Drop)]
+#[derive(Clone, Copy)]
 pub struct Options {
     pub endianness: EndiannessValue,
     pub arrays: Arrays,
@@ -79,13 +80,13 @@ pub struct Options {
     pub products: Products,
 }
 
-#[derive(Drop)]
+#[derive(Clone, Copy)]
 pub struct Head {
     pub options: Options,
     pub target: Part,
 }
 
-#[derive(Drop)]
+#[derive(Clone, Copy)]
 pub enum FieldDesc {
     Checksum {
         field_id: Part,
@@ -141,14 +142,14 @@ pub enum FieldDesc {
 }
 
 // `if` and `is`.
-#[derive(Drop)]
+#[derive(Clone, Copy)]
 pub enum Cond {
     None,
     Some { id: Part, value: u64 },
 }
 
 // The key of a field is its place in the record.
-#[derive(Drop)]
+#[derive(Clone, Copy)]
 pub struct Field {
     pub key: usize,
     pub desc: FieldDesc,
@@ -156,7 +157,7 @@ pub struct Field {
 }
 
 // The marks of an enum stand for `is_open_enum` and `is_complete_enum` of the `common` module.
-#[derive(Drop)]
+#[derive(Clone, Copy)]
 pub enum DeclDesc {
     Checksum {
         width: u64,
@@ -178,7 +179,7 @@ pub enum DeclDesc {
 }
 
 // The key of a declaration is its place in the record. `bits` is what the record says of its own size (document 02, Card 10), in a packet or a struct alone.
-#[derive(Drop)]
+#[derive(Clone, Copy)]
 pub struct Decl {
     pub key: usize,
     pub id: Part,
@@ -188,27 +189,27 @@ pub struct Decl {
 
 // ---- analyzer.rs
 
-#[derive(Drop)]
+#[derive(Clone, Copy)]
 pub enum Size {
     Static(u64),
     Dynamic,
     Unknown,
 }
 
-#[derive(Drop)]
+#[derive(Clone, Copy)]
 pub enum MaybeSize {
     None,
     Some(Size),
 }
 
-#[derive(Drop)]
+#[derive(Clone, Copy)]
 pub enum ElementSize {
     Static(u64),
     Dynamic,
     Unknown,
 }
 
-#[derive(Drop)]
+#[derive(Clone, Copy)]
 pub enum ArraySize {
     StaticCount(u64),
     DynamicCount,
@@ -217,7 +218,7 @@ pub enum ArraySize {
 }
 
 // What a type is: an enum of a width, with its marks, or anything else.
-#[derive(Drop)]
+#[derive(Clone, Copy)]
 pub enum EnumOf {
     Enum {
         width: u64,
@@ -228,7 +229,7 @@ pub enum EnumOf {
 }
 
 // What a size, count or element size field names: its `field_id`, and a size field's width.
-#[derive(Drop)]
+#[derive(Clone, Copy)]
 pub enum Reference {
     None,
     Size { field_id: Part, width: u64 },
@@ -239,7 +240,7 @@ pub enum Reference {
 // ---- why a record is turned back: the refusals of document 01, in its order, and of document 02 16, which is tested behind 2, 17, behind 8, and 19, behind
 // 14 at each target of a file (`lower_all` alone). 10 to 14 are the panics of cxx.rs
 
-#[derive(Drop)]
+#[derive(Clone, Copy)]
 pub enum Refusal {
     RecordLength,
     RecordForm,
@@ -262,7 +263,7 @@ pub enum Refusal {
 }
 
 // What a test over the whole record comes to.
-#[derive(Drop)]
+#[derive(Clone, Copy)]
 pub enum Verdict {
     Pass,
     Refuse(Refusal),
@@ -271,93 +272,93 @@ pub enum Verdict {
 // ---- what stands at a place of the record by its form alone, and the place behind its newline. What is made of several lines, and a name that may be
 // absent, are the definitions' alone: the code has the screened ones below
 
-#[derive(Drop)]
+#[derive(Clone, Copy)]
 pub enum Found {
     At(usize),
     Nothing,
 }
 
-#[derive(Drop)]
+#[derive(Clone, Copy)]
 pub enum NumberRead {
     Is(u64, usize),
     Wrong,
 }
 
-#[derive(Drop)]
+#[derive(Clone, Copy)]
 pub enum NameRead {
     Is(Part, usize),
     Wrong,
 }
 
-#[derive(Drop)]
+#[derive(Clone, Copy)]
 pub enum BitRead {
     Is(bool, usize),
     Wrong,
 }
 
-#[derive(Drop)]
+#[derive(Clone, Copy)]
 pub enum ModifierRead {
     Is(Modifier, usize),
     Wrong,
 }
 
-#[derive(Drop)]
+#[derive(Clone, Copy)]
 pub enum MaybeNumberRead {
     Is(MaybeNumber, usize),
     Wrong,
 }
 
-#[derive(Drop)]
+#[derive(Clone, Copy)]
 pub enum MaybeSizeRead {
     Is(MaybeSize, usize),
     Wrong,
 }
 
-#[derive(Drop)]
+#[derive(Clone, Copy)]
 pub enum MaybePartRead {
     Is(MaybePart, usize),
     Wrong,
 }
 
-#[derive(Drop)]
+#[derive(Clone, Copy)]
 pub enum DescRead {
     Is(FieldDesc, usize),
     Wrong,
 }
 
-#[derive(Drop)]
+#[derive(Clone, Copy)]
 pub enum CondRead {
     Is(Cond, usize),
     Wrong,
 }
 
-#[derive(Drop)]
+#[derive(Clone, Copy)]
 pub enum FieldRead {
     Is(Field, usize),
     Wrong,
 }
 
 // An optional line of the head, and the place behind it: `trailing`, `raw`, `products`.
-#[derive(Drop)]
+#[derive(Clone, Copy)]
 pub struct TrailingRead {
     pub trailing: Trailing,
     pub next: usize,
 }
 
-#[derive(Drop)]
+#[derive(Clone, Copy)]
 pub struct RawRead {
     pub raw: Raw,
     pub next: usize,
 }
 
-#[derive(Drop)]
+#[derive(Clone, Copy)]
 pub struct ProductsRead {
     pub products: Products,
     pub next: usize,
 }
 
 // All of them.
-#[derive(Drop)]
+#[derive(Clone, Copy)]
 pub struct OptionalRead {
     pub trailing: Trailing,
     pub raw: Raw,
@@ -365,13 +366,13 @@ pub struct OptionalRead {
     pub next: usize,
 }
 
-#[derive(Drop)]
+#[derive(Clone, Copy)]
 pub enum HeadRead {
     Is(Head, usize),
     Wrong,
 }
 
-#[derive(Drop)]
+#[derive(Clone, Copy)]
 pub enum DeclRead {
     Is(Decl, usize),
     Wrong,
@@ -380,55 +381,55 @@ pub enum DeclRead {
 // ---- what the readers hand out (document 02, Card 6): no name that is a keyword of C++, yet the place behind it, so that the form is read on
 
 // Where a name stands: a name that is free, or a keyword.
-#[derive(Drop)]
+#[derive(Clone, Copy)]
 pub enum ScreenedName {
     Free(Part),
     Keyword,
 }
 
 // The same, where `-` may stand.
-#[derive(Drop)]
+#[derive(Clone, Copy)]
 pub enum ScreenedPart {
     None,
     Free(Part),
     Keyword,
 }
 
-#[derive(Drop)]
+#[derive(Clone, Copy)]
 pub enum ScreenedNameRead {
     Is(ScreenedName, usize),
     Wrong,
 }
 
-#[derive(Drop)]
+#[derive(Clone, Copy)]
 pub enum ScreenedPartRead {
     Is(ScreenedPart, usize),
     Wrong,
 }
 
 // What is made of several lines: all its names are free, or one is a keyword.
-#[derive(Drop)]
+#[derive(Clone, Copy)]
 pub enum ScreenedDesc {
     Is(FieldDesc, usize),
     Keyword(usize),
     Wrong,
 }
 
-#[derive(Drop)]
+#[derive(Clone, Copy)]
 pub enum ScreenedCond {
     Is(Cond, usize),
     Keyword(usize),
     Wrong,
 }
 
-#[derive(Drop)]
+#[derive(Clone, Copy)]
 pub enum ScreenedField {
     Is(Field, usize),
     Keyword(usize),
     Wrong,
 }
 
-#[derive(Drop)]
+#[derive(Clone, Copy)]
 pub enum ScreenedHead {
     Is(Head, usize),
     Keyword(usize),
@@ -436,7 +437,7 @@ pub enum ScreenedHead {
 }
 
 // Beside the place: whether fields may follow, as behind a packet or a struct.
-#[derive(Drop)]
+#[derive(Clone, Copy)]
 pub enum ScreenedDecl {
     Is(Decl, usize),
     Keyword(usize, bool),

@@ -1,5 +1,7 @@
 // `parse_array_element` of cxx.rs, and the loops of both modes around the elements of an array. Document 01, 'Lowering': a closed enum is tested by
 // `IsValid`, complete or not.
+#![tactic(auto)]
+
 ghost use Rattle.std.specs.Prelude.{[], ◌++◌};
 ghost use Rattle.definitions.specs.Lines.{lines_text, line_text, Out};
 ghost use Rattle.definitions.specs.Blocks.{span as wholeSpan, parse_lines, parse_array_element, Elem};
@@ -11,7 +13,7 @@ use definitions::{Arrays, EndiannessValue};
 use expressions::{Amount, Term};
 
 // How one element is read; a name that it needs stands beside it.
-#[derive(Drop)]
+#[derive(Clone, Copy)]
 pub enum Element {
     Scalar {
         endianness: EndiannessValue,
@@ -30,7 +32,7 @@ pub enum Element {
 }
 
 // The span that an element's own parser gets.
-#[derive(Drop)]
+#[derive(Clone, Copy)]
 pub enum Source {
     // `span`
     Span,
@@ -41,7 +43,7 @@ pub enum Source {
 }
 
 // Where an element goes.
-#[derive(Drop)]
+#[derive(Clone, Copy)]
 pub enum Place {
     // `output->{id}_[n] = V;`
     Slot,
@@ -50,7 +52,7 @@ pub enum Place {
 }
 
 // The head of a loop.
-#[derive(Drop)]
+#[derive(Clone, Copy)]
 pub enum Loop {
     // `for (size_t n = 0; n < e; n++) {`
     Times(Amount),

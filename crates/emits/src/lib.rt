@@ -1,9 +1,11 @@
 // What a field that is no bit field comes to, by value: `Emit` of the definitions, with names as parts of the record. `fields` finds it, `field_lines`
 // writes its block. specs/BlockOf says what it stands for; specs/Target has the fields of a target by index.
+#![tactic(auto)]
+
 use definitions::{ArraySize, ElementSize, MaybeNumber, MaybePart, Modifier, Part, Refusal};
 use elements::Element;
 
-#[derive(Drop)]
+#[derive(Clone, Copy)]
 pub enum BlockAt {
     SizedPayload(Modifier),
     PayloadUpTo(u64),
@@ -54,7 +56,7 @@ pub enum BlockAt {
     },
 }
 
-#[derive(Drop)]
+#[derive(Clone, Copy)]
 pub enum EmitAt {
     Appends(BlockAt),
     Silent,

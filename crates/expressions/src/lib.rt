@@ -1,5 +1,7 @@
 // What the lines of arrays, payloads, typedefs and optional fields share: names behind their prefix, sizes, and reads, each written between two
 // pieces. Document 01, 'Lowering'; the texts are those of definitions' Lines.
+#![tactic(auto)]
+
 ghost use Rattle.std.specs.Prelude.{◌≡◌, ◌++◌};
 ghost use Rattle.definitions.specs.Lines.{expr_text, src_text, Stmt};
 ghost use Rattle.definitions.specs.Blocks.{named, read_of, check_size, get_cxx_scalar_type};
@@ -11,7 +13,7 @@ use definitions::{Arrays, EndiannessValue};
 use text::ScalarType;
 
 // A number, the size of the span, or a variable of the array or payload that is read.
-#[derive(Drop)]
+#[derive(Clone, Copy)]
 pub enum Term {
     Literal(u64),
     // `span.size()`
@@ -27,7 +29,7 @@ pub enum Term {
 }
 
 // What stands in a size check, a subrange, a skip or a count.
-#[derive(Drop)]
+#[derive(Clone, Copy)]
 pub enum Amount {
     Of(Term),
     Product(Term, Term),

@@ -1,5 +1,6 @@
 // What the bits of a bit field are put into, or held against: the arms of the `match` in `parse_bit_field` of cxx.rs. The `if` names of the target's
 // fields are those of a table (crate conditions); types are looked up among the i declarations before it.
+#![tactic(auto)]
 
 ghost use Rattle.std.specs.Prelude.{◌≡◌};
 ghost use Rattle.tables.specs.Tables.{rows_from};

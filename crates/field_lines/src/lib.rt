@@ -1,5 +1,7 @@
 // The bytes of the block that a field which is no bit field appends: `BlockAt` of emits, with its names as parts of the record. Document 01,
 // 'Lowering': the arms of `parse` of cxx.rs for such fields, and those of `parse_optional_field`.
+#![tactic(auto)]
+
 ghost use Rattle.std.specs.Prelude.{◌≡◌, ℕ};
 ghost use Rattle.definitions.specs.Bytes.{Text};
 ghost use Rattle.definitions.specs.declared.Part.{Part};

@@ -1,5 +1,6 @@
 // `parse` of cxx.rs for a field that is no bit field, as a value, with `parse_optional_field` (refusal 13): the arms of a typedef and a payload are in the
 // crate `trailing`, that of an array in `array_fields`. The field is number k of the n that the declaration with the index i has from 64 i on.
+#![tactic(auto)]
 
 ghost use Rattle.std.specs.Prelude.{◌≡◌, ◌+◌, ◌<◌};
 ghost use Rattle.tables.specs.Tables.{rows_from, Tables, tables_of, rows_of, fields_of};
@@ -93,7 +94,7 @@ fn parse_optional_field(
 // ---- `parse`
 
 // What its arms tell apart in a field without a condition; bit fields do not come here.
-#[derive(Drop)]
+#[derive(Clone, Copy)]
 pub enum Other {
     Silent,
     Payload(Modifier),

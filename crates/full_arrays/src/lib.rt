@@ -1,5 +1,7 @@
 // `parse_array_field_full` of cxx.rs: the lines of an array in full mode, by element size and array size, twelve of the 24 shapes of document 01,
 // 'Lowering'. Each element is read, and stored.
+#![tactic(auto)]
+
 ghost use Rattle.text.specs.Put.{Put};
 ghost use Rattle.expressions.specs.Statements.{stmt_bytes, stmts_bytes};
 ghost use Rattle.array_lines.specs.Products.{ProductFits};

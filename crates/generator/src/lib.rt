@@ -1,5 +1,6 @@
 // A record of the load (document 02, Card 1) with the empty line behind it, written into a lent buffer, and what an input of the program `load` asks for.
 // What is right stands in crates/grammar/specs; families.rt has the texts among which is chosen.
+#![tactic(auto)]
 
 mod families;
 

@@ -1,5 +1,6 @@
 // The lines `key=value` of the record (document 01, 'The record'): a key with its `=`, a value, and its newline. `-` is absent. A name is handed out
 // where it is no keyword (document 02, Card 6).
+#![tactic(auto)]
 
 ghost use Rattle.std.specs.Prelude.{◌≡◌};
 ghost use Rattle.definitions.specs.Record.{number_line, name_line, bit_line, maybe_number_line, maybe_name_line, modifier_at, modifier_line, stated_at, bits_line};

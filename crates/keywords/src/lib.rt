@@ -1,5 +1,6 @@
 // The leaf that reads a name of the record, and the keywords of C++17 (document 02, Card 6). It hands out no name that is a keyword, yet the place
 // behind it. A name's length and first byte mostly tell that it is none; else it is compared with the keywords of its length.
+#![tactic(auto)]
 
 ghost use Rattle.std.specs.Prelude.{◌≡◌, true, false, ◌≤◌, ◌<◌, length};
 ghost use Rattle.definitions.specs.Bytes.{any, same};

@@ -1,5 +1,6 @@
 // The kinds of fields of the record that can be bit fields, and the choice by the line `field=KIND` (document 01, 'The record'). The form is read to
 // its end before a name is found to be a keyword (document 02, Card 6).
+#![tactic(auto)]
 
 ghost use Rattle.std.specs.Prelude.{◌≡◌, drop};
 ghost use Rattle.definitions.specs.Record.{named_width, fixed_scalar_at, fixed_enum_at, reserved_at, flag_at, typedef_at, choose, desc_at};
@@ -9,7 +10,7 @@ ghost use Rattle.kinds.specs.Words.{named, from_numbers, from_symbols};
 use definitions::{FieldDesc, Found, NumberRead, ScreenedDesc, ScreenedName, ScreenedNameRead};
 
 // The kinds whose keys are a name and a width.
-#[derive(Drop)]
+#[derive(Clone, Copy)]
 enum Named {
     Scalar,
     Size,

@@ -1,5 +1,6 @@
 // The program `load` (document 02, Card 1): reads a start number and a count from standard input and prints that many records, each followed by an
 // empty line. Other input prints nothing: 17 bytes are the most that a good one has, so the rest is read and dropped.
+#![tactic(auto)]
 
 use console::Input;
 use grammar::Asked;

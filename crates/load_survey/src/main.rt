@@ -1,6 +1,7 @@
 // Counts what a thousand records of the load from start 1 show (document 02, Card 1; docs/LOAD.md): the answers of `lower`, the head's values, the
 // declarations, the kinds of fields, in all declarations and in the target, the target's optional fields, and the 24 shapes of its arrays where the record
 // is accepted. Prints a line `NAME=COUNT` for each.
+#![tactic(auto)]
 
 ghost use Rattle.std.specs.Prelude.{◌≤◌, ◌<◌, length};
 

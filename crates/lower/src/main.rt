@@ -1,5 +1,6 @@
 // The program `lower` (document 01, 'Declarations on each side'): reads a record from standard input and prints the lines of its parser,
 // or `refused=N`. One byte more than a record may have is enough to turn it back, so the rest is read and dropped.
+#![tactic(auto)]
 
 use console::Input;
 use libc::{STDERR_FILENO, STDIN_FILENO};

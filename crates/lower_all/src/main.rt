@@ -1,5 +1,6 @@
 // The program `lower_all` (document 02, Card 13): reads a record from standard input and prints, for each packet and struct, a line `// target=NAME` and the
 // lines of its parser, or `refused=N`. As in `lower`, one byte more than a record may have is enough to turn it back, so the rest is read and dropped.
+#![tactic(auto)]
 
 use console::Input;
 use libc::{STDERR_FILENO, STDIN_FILENO};

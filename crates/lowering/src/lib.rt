@@ -1,6 +1,7 @@
 // `lower` (document 01, module 6): the record's bytes in, the lines of its target's C++ parser out; and `lower_all` (document 02, Card 13): those of every
 // packet and struct. The reader, the sizes and the parser each turn a record back by their refusals; here the tables are lent to them, the target's plan is
 // handed on, 15 is tested, and number and length come to one 64-bit number.
+#![tactic(auto)]
 
 ghost use Rattle.std.specs.Prelude.{◌≡◌, ℕ, ◌≤◌, length};
 ghost use Rattle.definitions.specs.Bytes.{Text};
@@ -25,7 +26,7 @@ use record::Reading;
 use sizes::Sizing;
 
 // What is asked for: the lines of the head's target, or those of every packet and struct.
-#[derive(Drop)]
+#[derive(Clone, Copy)]
 enum Wanted {
     Target,
     All,

@@ -1,5 +1,6 @@
 // Bytes and names of the record (document 01, 'The record' and module 1): fixed texts, numbers and names at a place, the bytes of a part, two names
 // that are the same, and the written name, a part of the record or of the word lent beside it.
+#![tactic(auto)]
 
 ghost use Rattle.std.specs.Prelude.{◌≡◌, ◌≤◌, drop};
 ghost use Rattle.definitions.specs.Bytes.{is_digit, is_word, same, part as partText};
@@ -254,7 +255,7 @@ pub fn is_payload_id(rec: &[u8], p: Part) -> bool
 }
 
 // What a written name comes from: a part of the record, or the word lent beside it.
-#[derive(Drop)]
+#[derive(Clone, Copy)]
 pub enum WrittenName {
     Part(Part),
     Payload,

@@ -1,4 +1,6 @@
 // The block of a typedef that is no bit field: `parse_typedef_field` of cxx.rs. Document 01, 'Lowering'; the texts are those of definitions' Blocks.
+#![tactic(auto)]
+
 ghost use Rattle.std.specs.Prelude.{[]};
 ghost use Rattle.definitions.specs.Bytes.{text as bytes};
 ghost use Rattle.definitions.specs.Blocks.{named, Block};

@@ -1,5 +1,7 @@
 // The block of an array with its padding: what `parse` of cxx.rs appends around an array that has a padded size. Document 01, 'Lowering'; the texts
 // are those of definitions' Blocks.
+#![tactic(auto)]
+
 ghost use Rattle.definitions.specs.Blocks.{Block};
 ghost use Rattle.text.specs.Put.{Put};
 ghost use Rattle.stream.specs.Stream.{block_text};

@@ -1,6 +1,8 @@
 // The driver of `FieldParser` (cxx.rs) over a plan of the target: `new`, `parse` for each field in order, and `done`. A run's check is written before its
 // first chunk, with the bits that the plan has of the fields behind it; that the lines are those of cxx.rs is the law of the crates stream and plans.
 // The kinds of the open chunk's fields are the loop's own: a chunk takes them where it closes.
+#![tactic(auto)]
+
 ghost use Rattle.std.specs.Prelude.{List, ◌≡◌, ℕ, ◌≤◌, length};
 ghost use Rattle.definitions.specs.Bytes.{Text};
 ghost use Rattle.definitions.specs.Blocks.{Bit};
@@ -20,7 +22,7 @@ use emits::EmitAt;
 use plans::PlanAt;
 
 // The answer, and the place behind the lines.
-#[derive(Drop)]
+#[derive(Clone, Copy)]
 pub struct Lowered {
     pub verdict: Verdict,
     pub at: usize,

@@ -1,4 +1,6 @@
 // The block of a payload or a body: `parse_payload_field_lite` of cxx.rs. Document 01, 'Lowering'; the texts are those of definitions' Blocks.
+#![tactic(auto)]
+
 ghost use Rattle.std.specs.Prelude.{◌++◌};
 ghost use Rattle.definitions.specs.Bytes.{text as bytes};
 ghost use Rattle.definitions.specs.Lines.{expr_text};

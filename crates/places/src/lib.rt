@@ -1,6 +1,7 @@
 // The reader's filling of the tables of a record (document 01, 'Form'): each declaration and each of its fields, as numbers, and the places of the fields,
 // up to the first line that is wrong or has a keyword of C++ (document 02, Card 6). Behind a keyword only the form is read: `kept` says that one stands
 // before the place.
+#![tactic(auto)]
 
 ghost use Rattle.std.specs.Prelude.{◌+◌, ◌≤◌, ◌<◌, ◌^◌, length};
 ghost use Rattle.definitions.specs.Bytes.{Text};
@@ -12,7 +13,7 @@ use definitions::{Found, ScreenedDecl, ScreenedField};
 // ---- the fields of a declaration
 
 // How many fields, and the place behind them; that place alone, where a name is a keyword.
-#[derive(Drop)]
+#[derive(Clone, Copy)]
 pub enum FieldsRead {
     Is(usize, usize),
     Keyword(usize),
@@ -124,7 +125,7 @@ fn fill_decl(
 }
 
 // How many declarations, where no name is a keyword.
-#[derive(Drop)]
+#[derive(Clone, Copy)]
 pub enum DeclsRead {
     Is(usize),
     Keyword,

@@ -1,5 +1,7 @@
 // The plan of the target (crate plans): what each of its fields comes to, decided once. The fields of the declaration with the index i are the n whose
 // places the table of fields has from 64 i on; from the last to the first, so that the bits behind a bit field are known where it is met.
+#![tactic(auto)]
+
 ghost use Rattle.std.specs.Prelude.{◌≡◌, List, ℕ};
 ghost use Rattle.definitions.specs.Sizes.{static_width};
 ghost use Rattle.definitions.specs.FieldParser.{is_bit};

@@ -1,5 +1,6 @@
 // Refusals 3 and 6 over the tables of a record (document 01, 'The answer'): too many declarations or fields, and a width, count, padding or mod
 // number outside its range.
+#![tactic(auto)]
 
 ghost use Rattle.std.specs.Prelude.{◌≡◌, false, ◌||◌, ◌+◌, ◌≤◌};
 ghost use Rattle.definitions.specs.Bytes.{any};

@@ -1,5 +1,6 @@
 // A field, a declaration and the head, as they stand at a place of the record (document 01, 'The record'; the head's lines `trailing`, `raw` and `products`:
 // document 02, Cards 3, 7 and 8), or that a name in them is a keyword of C++ (document 02, Card 6).
+#![tactic(auto)]
 
 ghost use Rattle.std.specs.Prelude.{◌≡◌};
 ghost use Rattle.definitions.specs.Record.{cond_at, field_at, parented_at, enum_at, checksum_decl_at, custom_at, decl_at, trailing_at, raw_at, products_at, optional_at, head_at};
@@ -64,7 +65,7 @@ pub fn field_at(rec: &[u8], at: usize) -> ScreenedField
 }
 
 // The declarations that can have a parent.
-#[derive(Drop)]
+#[derive(Clone, Copy)]
 enum Parented {
     Packet,
     Struct,

@@ -1,5 +1,6 @@
 // The record reader (document 01, module 2): refusals 1 to 6, each over the whole record before the next, or the head, the number of declarations and
 // the tables of what was read. Behind 2 and before 3 stands 16, of a name that is a keyword of C++ (document 02, Card 6).
+#![tactic(auto)]
 
 ghost use Rattle.std.specs.Prelude.{◌≡◌, ◌≤◌, length};
 ghost use Rattle.tables.specs.Tables.{declarations_from, tables_of};
@@ -9,7 +10,7 @@ use definitions::{Head, Refusal, ScreenedHead, Verdict};
 use places::DeclsRead;
 
 // What the reader answers: the head and the number of declarations, or a refusal.
-#[derive(Drop)]
+#[derive(Clone, Copy)]
 pub enum Reading {
     Pass(Head, usize),
     Refuse(Refusal),

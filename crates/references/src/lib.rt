@@ -1,5 +1,6 @@
 // Which field names which (analyzer.rs: `has_payload_size`, `has_array_size`, `array_size`), over the tables of a record: the fields of the
 // declaration with the index i are the n whose places `fields` has from 64 i on.
+#![tactic(auto)]
 
 ghost use Rattle.std.specs.Prelude.{◌≡◌, ◌+◌, ◌*◌, get_or};
 ghost use Rattle.definitions.specs.Bytes.{pick};
@@ -59,7 +60,7 @@ fn reference_in(values: &[u64], fields: &[u16], i: usize, k: usize) -> Reference
 // ---- a field that gives a size
 
 // What is looked for among the fields: a size field of the payload, a size or count field of an array, its element size field.
-#[derive(Drop)]
+#[derive(Clone, Copy)]
 pub enum Wanted {
     PayloadSize,
     ArraySize(Part),

@@ -1,6 +1,7 @@
 // Replays the stored cases of standard input (oracle/README.md, 'Cases') against the record reader and the size tables. A record whose answer
 // is 1 to 9, 16 or 17 must be refused by that number, and every other must pass. Then one number is made of the size tables of all that pass, as
 // `judge digest` makes it.
+#![tactic(auto)]
 
 ghost use Rattle.std.specs.Prelude.{◌<◌};
 
@@ -13,7 +14,7 @@ use sizes::Sizing;
 // ---- one record
 
 // By which number a record is refused, 1 to 9, 16 or 17, or 0; and one number for its size tables where it is not.
-#[derive(Drop)]
+#[derive(Clone, Copy)]
 pub struct Judged {
     pub refused: u64,
     pub digest: u64,
@@ -87,7 +88,7 @@ fn judge(rec: &[u8]) -> Judged {
 
 // ---- the counts
 
-#[derive(Drop)]
+#[derive(Clone, Copy)]
 pub struct Tally {
     pub cases: u64,
     pub refused: u64,

@@ -3,6 +3,7 @@
 // lines, in one of a byte less and in none, where 15 is due and nothing may be written. Then the record goes through `lowering::lower_all`, which
 // is held in the same way to single calls of `lower`, one for each packet and struct, joined (document 02, Card 13). Prints how many cases there
 // are, how many sections were joined, of how many records a single call cannot be asked, since its name makes them too long, and how many differ.
+#![tactic(auto)]
 
 ghost use Rattle.std.specs.Prelude.{◌≡◌, ◌++◌, length, drop};
 ghost use Rattle.definitions.specs.All.{target_line};
@@ -66,7 +67,7 @@ fn agrees(word: u64, answer: u64, lines: &[u8], out: &[u8]) -> bool
 // ---- a call
 
 // What is asked of a record: the lines of its target, or the sections of all.
-#[derive(Drop)]
+#[derive(Clone, Copy)]
 enum Asked {
     One,
     All,
@@ -199,7 +200,7 @@ fn target_answer(word: u64) -> u64
 }
 
 // The answer up to a target, the end of the sections, also past the buffer, how many there are, and whether a record was too long to be asked.
-#[derive(Drop)]
+#[derive(Clone, Copy)]
 struct Joined {
     answer: u64,
     at: usize,
@@ -340,7 +341,7 @@ fn is_joined(rec: &[u8], out: &mut [u8], whole: &[u8], j: Joined) -> bool {
 
 // ---- the stream
 
-#[derive(Drop)]
+#[derive(Clone, Copy)]
 struct Tally {
     cases: u64,
     accepted: u64,

@@ -1,5 +1,6 @@
 // The rows of `Schema` (analyzer.rs), 13 numbers each in declaration order: what a declaration takes from those before it, looked up by name among
 // the first n. Each of the three sizes of a row stands there as a number.
+#![tactic(auto)]
 
 ghost use Rattle.std.specs.Prelude.{◌≡◌, ◌+◌, ◌*◌, get_or};
 ghost use Rattle.definitions.specs.Sizes.{total_of, parent_of, desc_enum, enum_of, is_enum, is_bitfield};

@@ -1,5 +1,6 @@
 // `Schema::new` (analyzer.rs): `decl_size`, `parent_size` and `payload_size` of each declaration, put into its row of the table, and refusal 7 on the way.
 // The first entry over the limit ends the pass.
+#![tactic(auto)]
 
 ghost use Rattle.std.specs.Prelude.{◌≡◌, ◌||◌, ◌+◌, ◌*◌, ◌≤◌, ◌<◌, length};
 ghost use Rattle.definitions.specs.Sizes.{decl_size_of, payload_size_of, annotate_decl};
@@ -13,7 +14,7 @@ use definitions::{Decl, DeclDesc, MaybeNumber, Size};
 // ---- a row
 
 // An entry is over the limit, and its row.
-#[derive(Drop)]
+#[derive(Clone, Copy)]
 pub struct RowSizes {
     pub large: bool,
     pub own: Size,

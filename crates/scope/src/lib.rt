@@ -1,5 +1,6 @@
 // Refusals 4 and 5 over the tables of a record (document 01, 'The answer'; `Scope::new` of analyzer.rs refuses duplicates too): two declarations with
 // one name, and a type or parent that is no earlier declaration of its kind.
+#![tactic(auto)]
 
 ghost use Rattle.std.specs.Prelude.{◌≡◌, false, [], ◌+◌, ◌-◌, ◌≤◌};
 ghost use Rattle.definitions.specs.Bytes.{any};
@@ -45,7 +46,7 @@ pub fn duplicate_name(rec: &[u8], rows: &[u64], n: usize) -> bool
 // ---- 5: a type or parent is not an earlier declaration, a parent is no packet or struct, a fixed enum's type is no enum
 
 // What a name must stand for.
-#[derive(Drop)]
+#[derive(Clone, Copy)]
 pub enum Role {
     Anything,
     Frame,

@@ -1,4 +1,5 @@
 // `element_size` (analyzer.rs), refusals 8, 9 and, of document 02, 17, and 7, 8, 17, 9 one after the other over the tables of a record.
+#![tactic(auto)]
 
 ghost use Rattle.std.specs.Prelude.{◌≡◌, ◌&&◌, List, ℕ, ◌*◌, ◌≤◌, length};
 ghost use Rattle.definitions.specs.Bytes.{Text};
@@ -313,7 +314,7 @@ pub fn target(rec: &[u8], rows: &[u64], n: usize, name: Part) -> Found
 // ---- 7, 8, 17 and 9, each over the whole record before the next
 
 // The target's index, or the first refusal.
-#[derive(Drop)]
+#[derive(Clone, Copy)]
 pub enum Sizing {
     Target(usize),
     Refuse(Refusal),

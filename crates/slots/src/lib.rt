@@ -1,5 +1,6 @@
 // What is drawn from a family of slots (document 02, Card 1): a step of the state, the choice among the possibilities of a slot, and the slots of a family
 // from left to right, written into a lent buffer. A family comes as a text, its slots parted by `;` and their possibilities by `|`.
+#![tactic(auto)]
 
 ghost use Rattle.std.specs.Prelude.{◌≡◌, [], ◌+◌, ◌<◌, length, get_or, drop};
 ghost use Rattle.text.specs.Put.{Put};
@@ -8,7 +9,7 @@ ghost use Rattle.slots.specs.Pieces.{slots, possibilities, up_to};
 ghost use Rattle.slots.specs.Draws.{Draws};
 
 // The state behind what was drawn, and the end of what was written.
-#[derive(Drop)]
+#[derive(Clone, Copy)]
 pub struct Drawn {
     pub state: u32,
     pub end: usize,

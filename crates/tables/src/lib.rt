@@ -1,6 +1,7 @@
 // The record as values: what the reader read, as numbers of two tables, so that no text is read twice. `rows` has 13 numbers for each declaration, `values`
 // 17 for each field at 17 * (its place / 16); `fields` (document 01, 'Form') has the places of the fields, 64 for each declaration. Each is written whole
 // and read back by one function, or a name, a number or a condition alone; what is read back is what was written (proofs/Again).
+#![tactic(auto)]
 
 ghost use Rattle.std.specs.Prelude.{◌≡◌, [], ◌∷◌, ◌++◌, ◌+◌, ◌*◌, ◌/◌, ◌≤◌, ◌<◌, ◌^◌, get_or, set};
 ghost use Rattle.std.proofs.lemmas.List.Edits.{sets};

@@ -1,5 +1,7 @@
 // All targets of a record (document 02, Card 13): for each packet and struct, in file order, its section, a line `// target=NAME` and its lines. A section is
 // written as `lower` writes its lines, by a plan of the target, and 19 looks at its length. On an empty buffer the same functions find the length of all.
+#![tactic(auto)]
+
 ghost use Rattle.std.specs.Prelude.{◌≡◌, ◌≤◌, ◌^◌, length};
 ghost use Rattle.schema.specs.Entries.{entry_in, entries_from};
 ghost use Rattle.tables.specs.Tables.{Tables, tables_of, count_here};

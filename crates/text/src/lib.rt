@@ -1,6 +1,8 @@
 // Bytes and numbers written into a lent buffer (document 01, module 1): fixed C++ pieces, names, decimal and hexadecimal numbers; `mask`, and
 // `get_cxx_scalar_type` by a table (document 02, Card 4). Every writer says by `Put` which place comes next and what the buffer holds, for every
 // buffer and every place: the pass that only finds the length runs on an empty buffer.
+#![tactic(auto)]
+
 ghost use Rattle.std.specs.Prelude.{◌≡◌, ◌∷◌, [], ◌++◌, ◌-◌, ◌≤◌, ◌<◌, min};
 ghost use Rattle.definitions.specs.Bytes.{digit, digits, decimal, hexadecimal};
 ghost use Rattle.definitions.specs.Blocks.{mask as mask_of};
@@ -8,7 +10,7 @@ ghost use Rattle.text.specs.Put.{Put, after};
 ghost use Rattle.text.specs.Widths.{scalar_type_of};
 
 // The backing type of a width, by its bits; more than 64 bits have none (refusal 12).
-#[derive(Drop)]
+#[derive(Clone, Copy)]
 pub enum ScalarType {
     Bits(u64),
     TooWide,

@@ -1,6 +1,7 @@
 // `parse_typedef_field` and `parse_payload_field_lite` of cxx.rs as values, with `get_trailing_size`: refusal 14. The field is number k of the n that
 // the declaration with the index i has from 64 i on, on an octet boundary and behind refusals 3 and 7, so that no size is over the limit. With
 // `padded` (document 02, Card 3) a later array counts its padded size.
+#![tactic(auto)]
 
 ghost use Rattle.std.specs.Prelude.{◌≡◌, ◌+◌, ◌<◌};
 ghost use Rattle.definitions.specs.Sizes.{is_array, has_payload_size};
@@ -156,7 +157,7 @@ fn get_trailing_size(
 // ---- a typedef of a type that is no enum
 
 // Its name, and that of its type.
-#[derive(Drop)]
+#[derive(Clone, Copy)]
 pub struct TypedefParts {
     pub id: Part,
     pub type_id: Part,

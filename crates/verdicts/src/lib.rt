@@ -1,5 +1,7 @@
 // Whether a target is refused, by its plan and without a line (refusals 10 to 14, document 01): that shows in the widths and the places of its fields. Where a
 // buffer has room for the lines of every record, it is all that is left to ask before they are written.
+#![tactic(auto)]
+
 ghost use Rattle.std.specs.Prelude.{◌≡◌, ℕ, ◌+◌, ◌≤◌, ◌<◌, ◌^◌};
 ghost use Rattle.definitions.specs.Bytes.{Text};
 ghost use Rattle.definitions.specs.declared.Options.{Options};
@@ -14,7 +16,7 @@ use emits::EmitAt;
 use plans::PlanAt;
 
 // The open chunk, as far as a refusal asks for it: its bits and the number of its fields; and whether lines are pending.
-#[derive(Drop)]
+#[derive(Clone, Copy)]
 pub struct Tally {
     pub shift: u64,
     pub len: usize,
@@ -22,7 +24,7 @@ pub struct Tally {
 }
 
 // What a field comes to, and the tally behind it.
-#[derive(Drop)]
+#[derive(Clone, Copy)]
 pub struct Counted {
     pub verdict: Verdict,
     pub tally: Tally,
