@@ -251,10 +251,10 @@ module _ (s t : Text) where
   is-array (SameDesc.flag p) = refl
   is-array (SameDesc.typedef p q) = refl
 
-  fields-size : (x y : Size) → x ≡ y → {xs ys : List Annotated} → SameAnnotateds xs ys → fields_size x xs ≡ fields_size y ys
+  fields-size : {xs ys : List Annotated} → SameAnnotateds xs ys → (x y : Size) → x ≡ y → fields_size x xs ≡ fields_size y ys
   unfolding fields_size
-  fields-size x y e SameAnnotateds.done = e
-  fields-size x y e (SameAnnotateds.more {a} {b} k ks) = fields-size _ _ (cc (is-payload k.field.desc)) ks
+  fields-size SameAnnotateds.done x y e = e
+  fields-size (SameAnnotateds.more {a} {b} k ks) x y e = fields-size ks _ _ (cc (is-payload k.field.desc))
 
   payloads-size : (x y : Size) → x ≡ y → {xs ys : List Annotated} → SameAnnotateds xs ys → payloads_size x xs ≡ payloads_size y ys
   unfolding payloads_size
@@ -289,7 +289,7 @@ module _ (s t : Text) where
   row-of rs qs rows d e h ks =
       record {
         decl = h;
-        decl_size = decl-size _ _ (fields-size (Size.Static 0) (Size.Static 0) refl ks) h.desc;
+        decl_size = decl-size _ _ (fields-size ks (Size.Static 0) (Size.Static 0) refl) h.desc;
         parent_size = parent-of rs qs rows (parent-id h.desc);
         payload_size = payload-size _ _ (payloads-size (Size.Static 0) (Size.Static 0) refl ks) h.desc;
       }
@@ -322,7 +322,7 @@ module _ (s t : Text) where
   annotate-from rs qs rows SameDeclarations.done = SameSchema.done
   annotate-from rs qs rows (SameDeclarations.more {d} {e} k ks) =
       let now = annotate-decl rs qs rows d e k in
-      SameSchema.more now (annotate-from _ _ (rows_snoc _ _ rows now.row) ks)
+      SameSchema.more now (annotate-from (rs ++ ((annotate_decl s rs d).row ∷ [])) (qs ++ ((annotate_decl t qs e).row ∷ [])) (rows_snoc _ _ rows now.row) ks)
 
   pub same-schema : {ds es : List Declaration} → SameDeclarations s t ds es → SameSchema (new_schema s ds) (new_schema t es)
   same-schema h = annotate-from [] [] SameRows.done h

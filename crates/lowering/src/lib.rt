@@ -176,8 +176,7 @@ fn lower_in(rec: &[u8], out: &mut [u8], values: &mut [u64], wanted: Wanted) -> u
 // A field has 16 bytes or more and 17 numbers
 
 // The number is the answer times 2^32 plus the length of the lines, which stand at the front of `out`; all behind them is as it was.
-#[unsafe(no_mangle)]
-pub extern "C" fn lower(rec: &[u8], out: &mut [u8]) -> u64
+pub fn lower(rec: &[u8], out: &mut [u8]) -> u64
     ensures { (result ≡ word (answered rec.now (length out.old)))
         × (out.new ≡ buffer_after (answered rec.now (length out.old)) out.old) }
 {
@@ -206,8 +205,7 @@ pub extern "C" fn lower(rec: &[u8], out: &mut [u8]) -> u64
 }
 
 // The same, of the sections of every packet and struct, joined. A whole file is seldom short: two sizes do.
-#[unsafe(no_mangle)]
-pub extern "C" fn lower_all(rec: &[u8], out: &mut [u8]) -> u64
+pub fn lower_all(rec: &[u8], out: &mut [u8]) -> u64
     ensures { (result ≡ word (lower_all rec.now (length out.old)))
         × (out.new ≡ buffer_after (lower_all rec.now (length out.old)) out.old) }
 {

@@ -8,12 +8,12 @@ use native.Mathlib.Nat.{suc-mul, mul_comm, mul-le-mul_left, mul-le-mul_right, di
 use native.Mathlib.Omega.{arith}
 use lib.Dec.{leb, ltb}
 use borrow.Author.Tests.{ltb-true, leb-false}
-use lib.ListN.{length, take, length-drop}
+use lib.ListN.{length, take, drop, length-drop}
 use lib.IntN.{ℤ, pos, negsuc, ◌-ℤ◌}
 use Rattle.definitions.specs.Bytes.{Text, pick}
 use Rattle.definitions.specs.Lines.{Expr, Test, Before, Dest, Out, Line, Stmt}
 use Rattle.lengths.proofs.Booleans.{impossible}
-use Rattle.meaning.specs.Machine.{Cause, put, State, put_span, put_turns, Num, num, over, limited, unless_zero, eval, excusing}
+use Rattle.meaning.specs.Machine.{Cause, put, State, put_span, advance, put_var, put_turns, put_replies, value_of, Num, num, over, limited, unless_zero, eval, excusing}
 use Rattle.meaning.specs.Plain.{Natural, Positive, Operands}
 use Rattle.definitions.specs.Blocks.{span, raw, element_span, check_size, check_product, Elem, parse_array_element}
 use Rattle.definitions.specs.declared.Products.{Products}
@@ -253,19 +253,23 @@ module _ (z : Text) (nz : Apart raw z) (k : ℕ) (l : List Stmt) (σ : State) (r
     abbrev Ahead : ℕ → Post
     Ahead n τ = (r : ℕ) × (eval excusing τ e ≡ num (pos N)) × (N ≡ τ.turns + r) × (r * n ≤ held τ) × Kept z σ τ
 
+    -- the state with which the loop goes on
+    abbrev count-on : State → State
+    count-on υ = put_turns υ (υ.turns + 1)
+
     each-body : (E : Elem) (f : Dest) (g : Out) (τ : State) (r : ℕ) → eval excusing τ e ≡ num (pos N) → N ≡ τ.turns + suc r → r * reads E + reads E ≤ held τ
         → Kept z σ τ → wp_lines (parse_array_element span E f g) (λ υ. Ahead (reads E) (put_turns υ (υ.turns + 1))) τ
     each-body (Elem.scalar o w) f g τ r ev eq h kept =
-        (omega arith, (r, steady e st τ _ (λ c a. refl) ∙ ev, omega arith, omega (arith, length-drop (w / 8) (τ.spans span)), (omega (arith, length-drop (w / 8) (τ.spans span)), kept.1)))
+        (omega arith, (r, steady e st τ (count-on (advance τ span (w / 8))) (λ c a. refl) ∙ ev, omega arith, omega (arith, length-drop (w / 8) (τ.spans span)), (omega (arith, length-drop (w / 8) (τ.spans span)), kept.1)))
     each-body (Elem.open_enum T o w) f g τ r ev eq h kept =
-        (omega arith, (r, steady e st τ _ (λ c a. refl) ∙ ev, omega arith, omega (arith, length-drop (w / 8) (τ.spans span)), (omega (arith, length-drop (w / 8) (τ.spans span)), kept.1)))
+        (omega arith, (r, steady e st τ (count-on (advance τ span (w / 8))) (λ c a. refl) ∙ ev, omega arith, omega (arith, length-drop (w / 8) (τ.spans span)), (omega (arith, length-drop (w / 8) (τ.spans span)), kept.1)))
     each-body (Elem.closed_enum T o w) f g τ r ev eq h kept = (
       omega arith,
       λ a. (
         tt,
         (
           r,
-          steady e st τ _ (λ c ap. put_other τ.vars raw _ c ap) ∙ ev,
+          steady e st τ (count-on (put_replies (put_var (advance τ span (w / 8)) raw (value_of o (take (w / 8) (τ.spans span)))) a)) (λ c ap. put_other τ.vars raw _ c ap) ∙ ev,
           omega arith,
           omega (arith, length-drop (w / 8) (τ.spans span)),
           (omega (arith, length-drop (w / 8) (τ.spans span)), put_other τ.vars raw _ z nz ∙ kept.1),
@@ -273,7 +277,7 @@ module _ (z : Text) (nz : Apart raw z) (k : ℕ) (l : List Stmt) (σ : State) (r
       ),
     )
     each-body (Elem.parsed T) f g τ r ev eq h kept =
-        λ a n u. (tt, (r, steady e st τ _ (λ c ap. refl) ∙ ev, omega arith, omega arith, (omega (arith, length-drop n (τ.spans span)), kept.1)))
+        λ a n u. (tt, (r, steady e st τ (count-on (put_span (put_replies τ a) span (drop n (τ.spans span)))) (λ c ap. refl) ∙ ev, omega arith, omega arith, (omega (arith, length-drop n (τ.spans span)), kept.1)))
 
     pub each-up : (E : Elem) (f : Dest) (g : Out) → eval excusing σ e ≡ num (pos N) → N * reads E ≤ held σ → Up k (Stmt.count e (parse_array_element span E f g) ∷ l) σ
     each-up E f g ev h =

@@ -61,7 +61,7 @@ module _ (x : Text) (ne : Apart x span) where
             omega arith,
             (
               (tt, tt, tt, tt),
-              known _ (num (pos (length (put σ.spans x (take m (σ.spans span)) span)) -ℤ pos n)) m _
+              known (put_span σ x (take m (σ.spans span))) (num (pos (length (put σ.spans x (take m (σ.spans span)) span)) -ℤ pos n)) m _
                   (ap (λ (q : List ℕ). num (pos (length q) -ℤ pos n)) stays ∙ minus-num (held σ) n le)
                   (omega (arith, ap length stays), cut-splits σ m n (omega arith)),
             ),

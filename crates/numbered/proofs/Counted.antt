@@ -24,7 +24,7 @@ use Rattle.numbered.specs.Numbers.{kind_numbers, fields_numbers, chunks_numbers,
 
 counts-on : (a b c : ℕ) (l m : List ℕ) → Counts a l b → Counts b m c → Counts a (l ++ m) c
 counts-on a b c [] m e k = subst (λ (n : ℕ). Counts n m c) (sym e) k
-counts-on a b c (n ∷ l) m e k = (e.0, counts-on _ b c l m e.1 k)
+counts-on a b c (n ∷ l) m e k = (e.0, counts-on (a + 1) b c l m e.1 k)
 
 kind-counts : (k : ℕ) (x : Kind) → Counts k (kind_numbers k x) (next_raw k x)
 kind-counts k (Kind.number x) = refl
