@@ -1,7 +1,6 @@
 -- `lowering::lower_read` meets its contract, by the laws of Targets.
 -- Assumes nothing.
 use Rattle.lowering.proofs.Targets.{check-refused, target-fine, target-short, all-fine, target-answers, all-answers}
-use borrow.Author.Rules.{rules}
 use Rattle.lowering.proofs.lower_read.Goals as goal
 
 pub write_lines-requires : goal.write_lines-requires

@@ -1,0 +1,12 @@
+-- `byte_kinds::padding_at` meets its contract, by the laws of Screens and Steps.
+-- Assumes nothing.
+use Rattle.names.proofs.Steps.{via}
+use Rattle.byte_kinds.proofs.Screens.{padding-steps}
+use borrow.Author.Rules.{rules}
+use Rattle.byte_kinds.proofs.padding_at.Goals as goal
+
+pub returns-in_default : goal.returns-in_default
+returns-in_default c = search (padding-steps, via, rules)
+
+pub returns : goal.returns
+returns c = search (padding-steps, via, rules)

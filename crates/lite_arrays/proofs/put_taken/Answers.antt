@@ -1,0 +1,6 @@
+use Rattle.lite_arrays.proofs.Statements.{taken-lines}
+use borrow.Author.Rules.{rules}
+use Rattle.lite_arrays.proofs.put_taken.Goals as goal
+
+pub returns : goal.returns
+returns c = search (taken-lines, rules)

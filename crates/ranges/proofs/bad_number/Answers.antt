@@ -1,0 +1,47 @@
+-- `ranges::bad_number` meets its contract, by the laws of Tests.
+-- Assumes nothing.
+use Rattle.ranges.proofs.Tests.{kind-number}
+use borrow.Author.Rules.{rules}
+use Rattle.ranges.proofs.bad_number.Goals as goal
+
+pub returns-in-Checksum : goal.returns-in-Checksum
+returns-in-Checksum c = search (kind-number, rules)
+
+pub returns-in-Padding : goal.returns-in-Padding
+returns-in-Padding c = search (kind-number, rules)
+
+pub returns-in-Size : goal.returns-in-Size
+returns-in-Size c = search (kind-number, rules)
+
+pub returns-in-Count : goal.returns-in-Count
+returns-in-Count c = search (kind-number, rules)
+
+pub returns-in-ElementSize : goal.returns-in-ElementSize
+returns-in-ElementSize c = search (kind-number, rules)
+
+pub returns-in-Body : goal.returns-in-Body
+returns-in-Body c = search (kind-number, rules)
+
+pub returns-in-Payload : goal.returns-in-Payload
+returns-in-Payload c = search (kind-number, rules)
+
+pub returns-in-FixedScalar : goal.returns-in-FixedScalar
+returns-in-FixedScalar c = search (kind-number, rules)
+
+pub returns-in-FixedEnum : goal.returns-in-FixedEnum
+returns-in-FixedEnum c = search (kind-number, rules)
+
+pub returns-in-Reserved : goal.returns-in-Reserved
+returns-in-Reserved c = search (kind-number, rules)
+
+pub returns-in-Array : goal.returns-in-Array
+returns-in-Array c = search (kind-number, rules)
+
+pub returns-in-Scalar : goal.returns-in-Scalar
+returns-in-Scalar c = search (kind-number, rules)
+
+pub returns-in-Flag : goal.returns-in-Flag
+returns-in-Flag c = search (kind-number, rules)
+
+pub returns-in-Typedef : goal.returns-in-Typedef
+returns-in-Typedef c = search (kind-number, rules)

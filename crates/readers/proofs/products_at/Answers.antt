@@ -1,0 +1,18 @@
+-- `readers::products_at` meets its contract, by the laws of Screens.
+-- Assumes nothing.
+use Rattle.definitions.specs.Record.{products_at}
+use Rattle.readers.proofs.Screens.{line-chain}
+use borrow.Author.Rules.{rules}
+use Rattle.readers.proofs.products_at.Goals as goal
+
+pub returns-in-At : goal.returns-in-At
+unfolding products_at
+returns-in-At c = search (line-chain, rules)
+
+pub returns-in-At-key_at : goal.returns-in-At-key_at
+unfolding products_at
+returns-in-At-key_at c = search (line-chain, rules)
+
+pub returns : goal.returns
+unfolding products_at
+returns c = search (line-chain, rules)

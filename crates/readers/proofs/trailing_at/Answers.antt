@@ -1,0 +1,18 @@
+-- `readers::trailing_at` meets its contract, by the laws of Screens.
+-- Assumes nothing.
+use Rattle.definitions.specs.Record.{trailing_at}
+use Rattle.readers.proofs.Screens.{line-chain}
+use borrow.Author.Rules.{rules}
+use Rattle.readers.proofs.trailing_at.Goals as goal
+
+pub returns-in-At : goal.returns-in-At
+unfolding trailing_at
+returns-in-At c = search (line-chain, rules)
+
+pub returns-in-At-key_at : goal.returns-in-At-key_at
+unfolding trailing_at
+returns-in-At-key_at c = search (line-chain, rules)
+
+pub returns : goal.returns
+unfolding trailing_at
+returns c = search (line-chain, rules)

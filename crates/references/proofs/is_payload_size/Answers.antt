@@ -1,0 +1,17 @@
+-- `references::is_payload_size` meets its contract.
+-- Assumes nothing.
+use Rattle.references.proofs.Cases.{payload-as}
+use borrow.Author.Rules.{rules}
+use Rattle.references.proofs.is_payload_size.Goals as goal
+
+pub returns-in-None : goal.returns-in-None
+returns-in-None c = search (payload-as, rules)
+
+pub returns-in-Size : goal.returns-in-Size
+returns-in-Size c = search (payload-as, rules)
+
+pub returns-in-Count : goal.returns-in-Count
+returns-in-Count c = search (payload-as, rules)
+
+pub returns-in-ElementSize : goal.returns-in-ElementSize
+returns-in-ElementSize c = search (payload-as, rules)

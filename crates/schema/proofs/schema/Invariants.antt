@@ -1,0 +1,11 @@
+-- `schema::schema` meets its contract, by the laws of Passing.
+-- Assumes nothing.
+use Prim.Native.Nat.{◌-◌}
+use Rattle.schema.proofs.Passing.{Going}
+use Rattle.schema.proofs.schema.Given as goal
+
+abbrev pub invariant-loop-i : goal.invariant-loop-i
+invariant-loop-i l = Going l.rec l.initial.rows l.values l.fields l.n l.rows l.i
+
+abbrev pub decreases-loop-i : goal.decreases-loop-i
+decreases-loop-i l = l.n - l.i

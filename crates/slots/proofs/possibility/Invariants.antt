@@ -1,0 +1,13 @@
+-- `slots::possibility` meets its contract, by the laws of Parting.
+-- Assumes nothing.
+use Prim.Native.Nat.{◌-◌}
+use mathlib.Core.Path.{◌≡◌}
+use lib.ListN.{length, get_or, drop}
+use Rattle.slots.specs.Pieces.{parted}
+use Rattle.slots.proofs.possibility.Given as goal
+
+abbrev pub invariant-loop-p : goal.invariant-loop-p
+invariant-loop-p l = get_or (parted 124 (drop l.p l.slot)) l.skip [] ≡ get_or (parted 124 l.slot) l.k []
+
+abbrev pub decreases-loop-p : goal.decreases-loop-p
+decreases-loop-p l = length l.slot - l.p
