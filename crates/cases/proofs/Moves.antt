@@ -68,3 +68,5 @@ module _ (b : List ℕ) (at end : ℕ) {buf : List ℕ} {i p : ℕ} (m : Moving 
     where
       h : i ≡ length b - at
       h = omega arith
+
+pub ruleset slides = (slid-start, slid-turn, slid-end, slid-short)

@@ -2,14 +2,14 @@
 -- Assumes nothing.
 use Prim.Native.Nat.{ℕ, ◌+◌, ◌*◌, ◌-◌, ◌≤◌, ◌<◌}
 use mathlib.Core.List.{List}
-use mathlib.Core.Path.{◌≡◌, sym, ◌∙◌}
+use mathlib.Core.Path.{◌≡◌}
 use native.Mathlib.Numerals.{add-one}
 use native.Mathlib.Omega.{arith}
 use borrow.Author.Tests.{lt-ltb, le-ltb, le-leb, lt-leb, eq-eqb, ne_eqb}
 use lib.ListN.{drop, length, get_or, drop_of_length-le}
 use lib.Seq.{drop-cons}
 use Rattle.definitions.specs.Record.{part_of}
-use Rattle.cases.specs.Form.{numeral_of, parts_at, on_numeral}
+use Rattle.cases.specs.Form.{numeral_of, parts_at}
 use Rattle.cases.specs.declared.Numeral.{Numeral}
 use Rattle.cases.specs.declared.Stored.{Stored}
 
@@ -70,23 +70,6 @@ module _ (s : List ℕ) (at a n l : ℕ) where
       unfolding parts_at
       parts_whole h = rw (le-leb (at + n + l) (length s) (omega arith), parts_at)
 
--- ---- the line of a case: what one number in it comes to
-
-module _ {n r : Numeral} (e : r ≡ n) (f : ℕ → ℕ → Stored) where
-  pub line-cut : r ≡ Numeral.Cut → Stored.Cut ≡ on_numeral n f
-  unfolding on_numeral
-  line-cut h = rw (sym e ∙ h)
-
-  pub line-wrong : r ≡ Numeral.Wrong → Stored.Wrong ≡ on_numeral n f
-  unfolding on_numeral
-  line-wrong h = rw (sym e ∙ h)
-
-  pub line_on : {v p : ℕ} → r ≡ Numeral.Is v p → {x : Stored} → x ≡ f v p → x ≡ on_numeral n f
-  unfolding on_numeral
-  line_on h k = rw (sym e ∙ h) k
-
-pub ruleset lines = (line-cut, line-wrong, line_on)
-
-pub ruleset numerals = (numeral-cut, numeral-none, numeral-end, numeral-below, numeral-above, numeral-long)
+pub ruleset numerals = (numeral-cut, numeral-none, numeral-end, numeral-below, numeral-above, numeral-long, numeral-turn)
 
 pub ruleset parts = (parts-past, parts-short, parts_cut, parts_whole)

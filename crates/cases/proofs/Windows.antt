@@ -90,7 +90,7 @@ module _ (b : Text) (at end : ℕ) {s : Text} (p : s ≡ take end b) {x : Stored
 
   pub next-again : x ≡ Stored.Cut → {n : ℕ} {left : Text} → Refilled b at end n left → {r : Next} → r ≡ last_of (case_at (take n left) 0) n
       → NextAt b at end r left
-  next-again h {n} {left} f {r} k = meets r left h (record { filled = n; refilled = f; next-is = k })
+  next-again h {n} {left} f {r} k = meets r left h (record { filled = n; refilled = f; next_is = k })
 
 pub ruleset refills = (refill-full, refill-ended, refill-failed)
 

@@ -27,7 +27,7 @@ last_of Stored.Cut end = elim (eqb end 0) [ true ↦ Next.End | false ↦ Next.B
 pub record Again (buf : Text) (at end : ℕ) (r : Next) (left : Text) : Type 0 where
   pub filled : ℕ
   pub refilled : Refilled buf at end filled left
-  pub next-is : r ≡ last_of (case_at (take filled left) 0) filled
+  pub next_is : r ≡ last_of (case_at (take filled left) 0) filled
 
 -- the case that begins at `at` in a window that is filled up to `end`; where it is cut off, the window is filled again
 abbrev pub NextOf : Stored → Text → ℕ → ℕ → Next → Text → Type 0

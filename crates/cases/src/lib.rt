@@ -9,6 +9,7 @@ ghost use Rattle.cases.specs.Window.{Refilled, last_of, NextAt};
 
 use console::Input;
 use definitions::Part;
+use std::io::Read;
 
 // ---- a case in a slice
 
@@ -39,6 +40,7 @@ fn wide(b: u8) -> u64
 }
 
 // The number whose digits stand at a place, one or more, up to the byte `stop`.
+#[tactic(auto, using(crate::proofs::Numerals::numerals))]
 fn numeral_at(s: &[u8], at: usize, stop: u8) -> Numeral
     ensures { result ≡ numeral_at s.now stop at }
 {
@@ -68,6 +70,7 @@ fn numeral_at(s: &[u8], at: usize, stop: u8) -> Numeral
 }
 
 // The record and the lines that stand behind the line of a case.
+#[tactic(auto, using(crate::proofs::Numerals::parts))]
 fn parts_at(s: &[u8], at: usize, answer: u64, record_length: usize, lines_length: usize) -> Stored
     ensures { result ≡ parts_at s.now at answer record_length lines_length }
 {
@@ -95,6 +98,7 @@ fn parts_at(s: &[u8], at: usize, answer: u64, record_length: usize, lines_length
 }
 
 // The case that begins at a place.
+#[tactic(auto, unfolding(crate::specs::Form::on_numeral))]
 pub fn case_at(s: &[u8], at: usize) -> Stored
     ensures { result ≡ case_at s.now at }
 {
@@ -136,6 +140,7 @@ pub enum Next {
 }
 
 // Moves the bytes of a buffer from `at` up to `end` to its front, as many as it has, and gives their number.
+#[tactic(auto, using(crate::proofs::Moves::slides))]
 fn slide(buf: &mut [u8], at: usize, end: usize) -> usize
     ensures { Slid buf.old at end result buf.new }
 {
@@ -153,11 +158,12 @@ fn slide(buf: &mut [u8], at: usize, end: usize) -> usize
 }
 
 // Moves what is not yet read, from `at` up to `end`, to the front of the window, and fills it behind that: up to where it is filled.
-fn refill(fd: i32, window: &mut [u8], at: usize, end: usize) -> usize
+#[tactic(auto, using(crate::proofs::Windows::refills))]
+fn refill<R: Read>(from: &mut R, window: &mut [u8], at: usize, end: usize) -> usize
     ensures { Refilled window.old at end result window.new }
 {
     let kept = slide(window, at, end);
-    match console::fill(fd, window, kept) {
+    match console::fill(from, window, kept) {
         Input::Full(n) => n,
         Input::Ended(n) => n,
         Input::Failed => kept,
@@ -165,6 +171,7 @@ fn refill(fd: i32, window: &mut [u8], at: usize, end: usize) -> usize
 }
 
 // The case at the front of a window that was just filled.
+#[tactic(auto, using(crate::proofs::Windows::lasts))]
 fn front_case(window: &[u8], end: usize) -> Next
     ensures { result ≡ last_of (case_at (take end window.now) 0) end }
 {
@@ -190,7 +197,8 @@ fn front_case(window: &[u8], end: usize) -> Next
 }
 
 // The case that begins at `at` of the window, which is filled up to `end` from the stream before; both are 0 at the stream's start.
-pub fn next_case(fd: i32, window: &mut [u8], at: usize, end: usize) -> Next
+#[tactic(auto, using(crate::proofs::Windows::nexts))]
+pub fn next_case<R: Read>(from: &mut R, window: &mut [u8], at: usize, end: usize) -> Next
     ensures { NextAt window.old at end result window.new }
 {
     match case_at(console::front(window, end), at) {
@@ -206,7 +214,7 @@ pub fn next_case(fd: i32, window: &mut [u8], at: usize, end: usize) -> Next
         },
         Stored::Wrong => Next::Broken,
         Stored::Cut => {
-            let filled = refill(fd, window, at, end);
+            let filled = refill(from, window, at, end);
             front_case(window, filled)
         }
     }

@@ -1,1 +1,3 @@
 pub mod Reads
+pub mod Writes
+pub mod Answers

@@ -1,11 +1,19 @@
-// What a program around `lower` needs: bytes of a file, however they arrive, at a place of a buffer; the two parts of the number that `lower`
+// What a program around `lower` needs: bytes of a reader, however they arrive, at a place of a buffer; the two parts of the number that `lower`
 // gives (document 01, 'Modules': the answer times 2 ^ 32 plus the length); and what it prints (document 01, 'Declarations on each side').
+// Readers and writers are any: where the type says which bytes it gives or holds, the contracts say which bytes are read and written.
 #![tactic(auto)]
 
-ghost use Rattle.std.specs.Prelude.{◌≡◌, ◌+◌, ◌-◌, ◌/◌, ◌%◌, ◌^◌, min, length, take};
-ghost use Rattle.console.specs.Reads.{Filled, Came};
+ghost use Rattle.std.specs.Prelude.{◌≡◌, ◌+◌, ◌-◌, ◌/◌, ◌%◌, ◌^◌, min, length, take, IfOk, OnOk, false};
+ghost use Rattle.std.specs.Io.KnownBytes.{IsAtEnd};
+ghost use Rattle.console.specs.Reads.{Filled, Came, CameFrom, FilledFrom, Skips};
+ghost use Rattle.console.specs.Writes.{Writes, number_line, printed};
 
-use libc::STDOUT_FILENO;
+#[cfg(test)]
+mod tests;
+
+use itoa::Buffer;
+use std::io;
+use std::io::{ErrorKind, Read, Write};
 
 // ---- reading
 
@@ -25,27 +33,25 @@ enum Piece {
     Failed,
 }
 
-fn read_once(fd: i32, buf: &mut [u8]) -> Piece
-    ensures { Came result (length buf.old) }
+fn read_once<R: Read>(from: &mut R, buf: &mut [u8]) -> Piece
+    ensures count { Came result (length buf.old) }
+    ensures bytes { CameFrom result (R.remaining from.old) (R.remaining from.new) buf.new }
 {
-    let got = libc::read(fd, buf);
-    if got < 0 {
-        return Piece::Failed;
+    match from.read(buf) {
+        Ok(0) => Piece::End,
+        Ok(n) => Piece::Bytes(n),
+        Err(_) => Piece::Failed,
     }
-    let n = io::count(got, buf);
-    if n == 0 {
-        return Piece::End;
-    }
-    Piece::Bytes(n)
 }
 
 // Reads behind the first `at` bytes of a buffer, which stay, until it is full or the input ends.
-pub fn fill(fd: i32, buf: &mut [u8], at: usize) -> Input
-    ensures { Filled result at buf.old buf.new }
+pub fn fill<R: Read>(from: &mut R, buf: &mut [u8], at: usize) -> Input
+    ensures filled { Filled result at buf.old buf.new }
+    ensures bytes { FilledFrom result at (R.remaining from.old) (R.remaining from.new) buf.new }
 {
     let mut end = at;
     while end < buf.len() {
-        match read_once(fd, &mut buf[end..]) {
+        match read_once(from, &mut buf[end..]) {
             Piece::Bytes(n) => {
                 end += n;
             }
@@ -61,20 +67,28 @@ pub fn fill(fd: i32, buf: &mut [u8], at: usize) -> Input
 }
 
 // Reads once and drops what came: whether there was more.
-fn drop_some(fd: i32) -> bool {
-    let mut buf = io::buffer();
-    0 < libc::read(fd, &mut buf)
+fn drop_some<R: Read>(from: &mut R) -> io::Result<bool>
+    ensures skips { Skips (R.remaining from.old) (R.remaining from.new) }
+    ensures end { IfOk result (λ more. more ≡ false → IsAtEnd (R.remaining from.new)) }
+{
+    let mut buf = [0u8; 4096];
+    let n = from.read(&mut buf)?;
+    Ok(0 < n)
 }
 
-// Reads the input to its end. A proved loop has to end, so its turns are counted down from a number that no run uses up. It lends and gives
-// nothing, so its contract has nothing to say but that it returns.
-pub fn drain(fd: i32)
-    ensures { result ≡ tt }
+// Reads the input to its end. A proved loop has to end, so its turns are counted down from a number that no run uses up.
+pub fn drain<R: Read>(from: &mut R) -> io::Result<()>
+    ensures skips { Skips (R.remaining from.old) (R.remaining from.new) }
+    ensures end { OnOk result (IsAtEnd (R.remaining from.new)) }
 {
     let mut turns = u64::MAX;
-    while turns > 0 && drop_some(fd) {
+    while turns > 0 {
+        if !drop_some(from)? {
+            return Ok(());
+        }
         turns -= 1;
     }
+    Err(io::Error::from(ErrorKind::Interrupted))
 }
 
 // ---- the number that `lower` gives
@@ -103,27 +117,50 @@ pub fn front(s: &[u8], n: usize) -> &[u8]
     &s[0..n]
 }
 
-// ---- printing. A function that prints gives nothing, so its contract has nothing to say but that it returns.
+// Why a program prints nothing, or not all: its input cannot be read, or its output not written.
+#[derive(Clone, Copy)]
+pub enum Failure {
+    Input,
+    Output,
+}
+
+// ---- printing. An error leaves the first bytes of what was to be printed, none to all of them, behind what the writer held.
+
+// All the bytes.
+pub fn print_bytes<W: Write>(to: &mut W, bytes: &[u8]) -> io::Result<()>
+    ensures { Writes result (W.contents to.old) (W.contents to.new) bytes.now }
+{
+    let mut done = 0;
+    while done < bytes.len() {
+        let n = to.write(&bytes[done..])?;
+        if n == 0 {
+            return Err(io::Error::from(ErrorKind::WriteZero));
+        }
+        done += n;
+    }
+    Ok(())
+}
 
 // A line `NAME=NUMBER`.
-pub fn print_number(name: &[u8], n: u64)
-    ensures { result ≡ tt }
+pub fn print_number<W: Write>(to: &mut W, name: &[u8], n: u64) -> io::Result<()>
+    ensures { Writes result (W.contents to.old) (W.contents to.new) (number_line name.now n) }
 {
-    io::write_all(STDOUT_FILENO, name);
-    io::write_all(STDOUT_FILENO, b"=");
-    io::print_decimal(STDOUT_FILENO, n);
-    io::write_all(STDOUT_FILENO, b"\n");
+    let mut digits = Buffer::new();
+    print_bytes(to, name)?;
+    print_bytes(to, b"=")?;
+    print_bytes(to, digits.format(n).as_bytes())?;
+    print_bytes(to, b"\n")
 }
 
 // The lines at the front of the buffer that was lent, or a line `refused=N`.
-pub fn print_answer(word: u64, out: &[u8])
-    ensures { result ≡ tt }
+pub fn print_answer<W: Write>(to: &mut W, word: u64, out: &[u8]) -> io::Result<()>
+    ensures { Writes result (W.contents to.old) (W.contents to.new) (printed word out.now) }
 {
     let refusal = answer(word);
     if refusal == 0 {
-        io::write_all(STDOUT_FILENO, front(out, lines_length(word)));
+        print_bytes(to, front(out, lines_length(word)))
     } else {
-        print_number(b"refused", refusal);
+        print_number(to, b"refused", refusal)
     }
 }
 

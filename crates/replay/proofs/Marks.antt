@@ -1,5 +1,5 @@
 -- The turns and the ends of the loops over a marked buffer (`marks_from`, `are_marks`). Assumes nothing.
-use Prim.Native.Nat.{ℕ, zero, suc, ◌+◌, ◌-◌, ◌≤◌, ◌<◌}
+use Prim.Native.Nat.{ℕ, zero, suc, ◌+◌, ◌≤◌, ◌<◌}
 use mathlib.Core.Bool.{Bool, true, false}
 use mathlib.Core.List.{List, append-nil}
 use mathlib.Core.Path.{◌≡◌, refl, sym, ap, ◌∙◌}
@@ -70,3 +70,7 @@ module _ (s : List ℕ) (i : ℕ) {e : Bool} (inv : are_marks (drop i s) i ≡ e
     pub marks-turn : get_or s i 0 ≡ x → are_marks (drop (i + 1) s) (i + 1) ≡ e
     unfolding are_marks
     marks-turn h = rw (add-one i) (rw (drop-cons s i 0 w, sym k, eq-eqb _ _ h, are_marks, add-one i) at inv)
+
+pub ruleset marking = (marking-start, marking-turn, marking-end)
+
+pub ruleset marked = (marks-end, marks-other, marks-turn)

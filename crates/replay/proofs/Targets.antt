@@ -69,3 +69,7 @@ module _ (answer : ℕ) where
     early-last h = rw (is_early, ne_eqb _ _ z, le-ltb answer 10 h)
 
 pub ruleset early = (early-none, early-first, early-last)
+
+pub ruleset targets = (targets-end, target-here, target-later)
+
+pub ruleset asks = (three-parts)

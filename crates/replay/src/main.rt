@@ -13,7 +13,8 @@ ghost use Rattle.replay.specs.Targets.{name_behind, next_target, asking, target_
 
 use cases::Next;
 use definitions::{Found, NameRead, Part};
-use libc::STDIN_FILENO;
+use std::io;
+use std::io::{Read, Write};
 
 // ---- a buffer whose bytes are all marked before a call
 
@@ -24,6 +25,7 @@ fn mark(i: usize) -> u8
     (128 + i % 128) as u8
 }
 
+#[tactic(auto, using(crate::proofs::Marks::marking))]
 fn mark_all(out: &mut [u8])
     ensures { out.new ≡ marks_from 0 (length out.old) }
 {
@@ -35,6 +37,7 @@ fn mark_all(out: &mut [u8])
 }
 
 // Whether every byte from a place on is as it was marked.
+#[tactic(auto, using(crate::proofs::Marks::marked))]
 fn are_marks(out: &[u8], from: usize) -> bool
     ensures { result ≡ are_marks (drop from out.now) from }
 {
@@ -49,6 +52,7 @@ fn are_marks(out: &[u8], from: usize) -> bool
 }
 
 // Whether a call gave this answer and these lines, at the front of the buffer, and left all behind them as it was.
+#[tactic(auto, using(crate::proofs::Agreeing::agreeing))]
 fn agrees(word: u64, answer: u64, lines: &[u8], out: &[u8]) -> bool
     ensures { result ≡ agreed word answer lines.now out.now }
 {
@@ -140,6 +144,7 @@ fn name_behind(rec: &[u8], at: usize, key: &[u8], other: &[u8]) -> NameRead
 }
 
 // The name of the first packet or struct that begins behind a place. No other line of a record begins with `decl=`.
+#[tactic(auto, using(crate::proofs::Targets::targets))]
 fn next_target(rec: &[u8], at: usize) -> NameRead
     ensures { result ≡ next_target rec.now (drop at rec.now) at }
 {
@@ -158,6 +163,7 @@ fn next_target(rec: &[u8], at: usize) -> NameRead
 }
 
 // The record with another name of it in place of the head's.
+#[tactic(auto, using(crate::proofs::Targets::asks))]
 fn put_asking(rec: &[u8], out: &mut [u8], head: Part, name: Part) -> usize
     ensures { Put out.old 0 (asking rec.now head name) result out.new }
 {
@@ -186,6 +192,7 @@ fn put_section(out: &mut [u8], at: usize, name: &[u8], lines: &[u8]) -> usize
 }
 
 // What a single call says of its target: 19 where it gives more than 8,192 bytes.
+#[tactic(auto, using(crate::proofs::Targets::answers))]
 fn target_answer(word: u64) -> u64
     ensures { result ≡ target_answer word }
 {
@@ -293,6 +300,7 @@ fn join_all(
 // ---- a case
 
 // Whether a refusal comes before any target: 1 to 9, 16 and 17.
+#[tactic(auto, using(crate::proofs::Targets::early))]
 fn is_early(answer: u64) -> bool
     ensures { result ≡ is_early answer }
 {
@@ -351,7 +359,13 @@ struct Tally {
 }
 
 // One case more, for one target, and for all of them by what the single calls came to.
-fn tallied(t: Tally, answer: u64, j: Joined, agreed: bool) -> Tally {
+fn tallied<W: Write>(
+    to: &mut W,
+    t: Tally,
+    answer: u64,
+    j: Joined,
+    agreed: bool,
+) -> io::Result<Tally> {
     let cases = console::plus_one(t.cases);
     let accepted = if answer == 0 {
         console::plus_one(t.accepted)
@@ -366,25 +380,26 @@ fn tallied(t: Tally, answer: u64, j: Joined, agreed: bool) -> Tally {
     let differ = if agreed {
         t.differ
     } else {
-        differs(t.differ, cases)
+        differs(to, t.differ, cases)?
     };
-    Tally {
+    Ok(Tally {
         cases,
         accepted,
         sections: j.sections,
         too_long,
         differ,
-    }
+    })
 }
 
 // A case that differs is printed.
-fn differs(n: u64, case: u64) -> u64 {
-    console::print_number(b"differs", case);
-    console::plus_one(n)
+fn differs<W: Write>(to: &mut W, n: u64, case: u64) -> io::Result<u64> {
+    console::print_number(to, b"differs", case)?;
+    Ok(console::plus_one(n))
 }
 
 // Replays a case, whose record and lines stand in the window.
-fn replay_case(
+fn replay_case<W: Write>(
+    to: &mut W,
     window: &[u8],
     asking: &mut [u8],
     out: &mut [u8],
@@ -393,19 +408,26 @@ fn replay_case(
     answer: u64,
     record: Part,
     lines: Part,
-) -> Tally {
+) -> io::Result<Tally> {
     let rec = names::part(window, record);
     let j = join_calls(rec, asking, out, whole, t.sections, answer);
     if !is_given_in_every_room(rec, out, Asked::One, answer, names::part(window, lines)) {
-        return tallied(t, answer, j, false);
+        return tallied(to, t, answer, j, false);
     }
     let given = is_joined(rec, out, whole, j);
-    tallied(t, answer, j, given)
+    tallied(to, t, answer, j, given)
 }
 
 // Replays the stream to its end, or to where it is no stream of cases, which a line `broken=N` says, behind the Nth case. A proved loop has
 // to end, so its turns are counted down from a number that no run uses up.
-fn replay(window: &mut [u8], asking: &mut [u8], out: &mut [u8], whole: &mut [u8]) -> Tally {
+fn replay<R: Read, W: Write>(
+    from: &mut R,
+    to: &mut W,
+    window: &mut [u8],
+    asking: &mut [u8],
+    out: &mut [u8],
+    whole: &mut [u8],
+) -> io::Result<Tally> {
     let mut t = Tally {
         cases: 0,
         accepted: 0,
@@ -418,38 +440,43 @@ fn replay(window: &mut [u8], asking: &mut [u8], out: &mut [u8], whole: &mut [u8]
     let mut turns = u64::MAX;
     while turns > 0 {
         turns -= 1;
-        match cases::next_case(STDIN_FILENO, window, at, end) {
+        match cases::next_case(from, window, at, end) {
             Next::Case {
                 answer,
                 record,
                 lines,
                 end: filled,
             } => {
-                t = replay_case(window, asking, out, whole, t, answer, record, lines);
+                t = replay_case(to, window, asking, out, whole, t, answer, record, lines)?;
                 at = lines.end;
                 end = filled;
             }
             Next::End => {
-                return t;
+                return Ok(t);
             }
             Next::Broken => {
-                console::print_number(b"broken", t.cases);
-                return t;
+                console::print_number(to, b"broken", t.cases)?;
+                return Ok(t);
             }
         }
     }
-    t
+    Ok(t)
 }
 
-fn main() {
+// The program, at any input and output.
+fn run<R: Read, W: Write>(from: &mut R, to: &mut W) -> io::Result<()> {
     let mut window = [0u8; 131072];
     let mut asking = [0u8; 16448];
-    let mut out = io::large_buffer();
-    let mut whole = io::large_buffer();
-    let t = replay(&mut window, &mut asking, &mut out, &mut whole);
-    console::print_number(b"cases", t.cases);
-    console::print_number(b"accepted", t.accepted);
-    console::print_number(b"sections", t.sections);
-    console::print_number(b"too_long", t.too_long);
-    console::print_number(b"differ", t.differ);
+    let mut out = [0u8; 65536];
+    let mut whole = [0u8; 65536];
+    let t = replay(from, to, &mut window, &mut asking, &mut out, &mut whole)?;
+    console::print_number(to, b"cases", t.cases)?;
+    console::print_number(to, b"accepted", t.accepted)?;
+    console::print_number(to, b"sections", t.sections)?;
+    console::print_number(to, b"too_long", t.too_long)?;
+    console::print_number(to, b"differ", t.differ)
+}
+
+fn main(rt: HostRuntime) {
+    let _ = run(&mut rt.stdin(), &mut rt.stdout());
 }
