@@ -6,36 +6,26 @@
 use mathlib.Core.Bool.{false}
 use mathlib.Core.List.{List}
 use mathlib.Core.Path.{◌≡◌, refl, sym, ◌∙◌, subst}
-use Prim.Native.Nat.{ℕ, suc, ◌^◌, ◌<◌}
-use lib.IntN.{ℤ}
-use lib.ListN.{length}
+use Prim.Native.Nat.{ℕ}
 use Rattle.definitions.specs.Bytes.{Text}
 use Rattle.definitions.specs.Record.{Declaration, record_is, read_record}
 use Rattle.definitions.specs.Sizes.{Schema, Annotated}
 use Rattle.definitions.specs.Lines.{Stmt}
-use Rattle.definitions.specs.Blocks.{span, Block, program}
+use Rattle.definitions.specs.Blocks.{Block, program}
 use Rattle.definitions.specs.FieldParser.{Setting, accepted, lower_fields}
 use Rattle.definitions.specs.Answer.{lower_record, wrong_length, answer}
 use Rattle.definitions.specs.declared.Products.{Products}
 use Rattle.definitions.specs.declared.Head.{Head}
-use Rattle.meaning.specs.Machine.{Cause, State, Reply, start, over, Arithmetic, running, returned, excused, beyond, run, Inside}
-use Rattle.meaning.specs.Outside.{run_with}
-use Rattle.meaning.specs.Plain.{PlainNext}
-use Rattle.meaning.proofs.Accepted.{blocks-ok}
-use Rattle.meaning.proofs.Safe.{plain-next}
-use Rattle.meaning.proofs.Frame.{inside}
-use Rattle.meaning.proofs.Outside.{any-product, any-product-safe}
+use Rattle.meaning.specs.Machine.{Cause, State, Reply, start, running, excused, run}
 use Rattle.alike.specs.Without.{without_products, undivided}
 use Rattle.alike.specs.Chosen.{raw_stays}
 use Rattle.alike.proofs.Chosen.{fields-by, record-by}
 use Rattle.divided.specs.Undivided.{products_as, undivided_setting, undivide, undivide_outcome, HaveProducts, UndividedBlocks, DividedBlocks}
-use Rattle.divided.specs.Checks.{Checks, NoProductTested}
+use Rattle.divided.specs.Checks.{Checks}
 use Rattle.divided.specs.Faring.{SameStanding}
-use Rattle.divided.proofs.Listings.{program-checks, program-tests}
-use Rattle.divided.proofs.Records.{blocks-stay, accepted-have, record-without, accepted-without, record-undivides, short-inside}
+use Rattle.divided.proofs.Listings.{program-checks}
+use Rattle.divided.proofs.Records.{blocks-stay, accepted-have, record-without, accepted-without, record-undivides}
 use Rattle.divided.proofs.Steps.{runs_same}
-use Rattle.divided.proofs.Turned.{runs-turned}
-use Rattle.divided.proofs.Unexcused.{Short, Reaches, never-past}
 
 -- ==== An accepted record whose head says `divide`
 
@@ -44,56 +34,6 @@ module _ (s : Text) (bs : List Block) (accepts : answer s ≡ accepted bs) (h : 
   -- Each of its arrays is lowered so,
   pub blocks-divided : DividedBlocks bs
   blocks-divided = subst (λ (w : Products). HaveProducts w bs) divides (accepted-have s bs accepts h ds read)
-
-  -- and no `<` in its lines has a product on its right: "each size check on A * B" is by a division.
-  pub each-divided : NoProductTested (program bs)
-  each-divided = program-tests bs blocks-divided
-
-  -- wherever a run from a short frame comes to, the line that is run next is plain, and the span is short
-  reached : (frame : List ℕ) → length frame < 2 ^ 31 → (vars : Text → ℕ) (replies : List Reply)
-      → Reaches (start frame vars replies) (program bs) (λ τ r. PlainNext τ r × Short τ)
-  reached frame short vars replies j τ r e = (
-    plain-next bs (blocks-ok s bs accepts) (start frame vars replies) τ j r e,
-    short-inside frame (τ.spans span) short (inside frame vars replies j (program bs) r τ e span),
-  )
-
-  -- "For these records the premise on products is dropped: any counts and any frame below 2^31 bytes": a run of document 01's machine is never excused
-  -- by a product.
-  pub never-by-product : (frame : List ℕ) → length frame < 2 ^ 31 → (vars : Text → ℕ) (replies : List Reply) (steps : ℕ)
-      → run steps (start frame vars replies) (program bs) ≡ excused Cause.by_product → ⊥
-  never-by-product frame short vars replies steps =
-      never-past steps (start frame vars replies) (program bs) each-divided (reached frame short vars replies)
-
-  -- "a product past 2^31 − 1 giving any number, and still nothing past the end; sums keep theirs": `m` says for each step what a product past 2^31 − 1
-  -- gives, and is asked only that a sum past it breaks the premise on sums. Whatever `m` gives, the run is the same,
-  pub any-product-same : (frame : List ℕ) → length frame < 2 ^ 31 → (vars : Text → ℕ) (replies : List Reply) (steps : ℕ)
-      → (m : ℕ → Arithmetic) → ((k : ℕ) (x y : ℤ) → (m k).sum x y ≡ over Cause.by_sum)
-      → run_with m steps (start frame vars replies) (program bs) ≡ run steps (start frame vars replies) (program bs)
-  any-product-same frame short vars replies steps m sums =
-      any-product s bs accepts (start frame vars replies) steps m sums (never-by-product frame short vars replies steps)
-
-  -- no line asks for bytes beyond the end of its span,
-  pub never-beyond-divided : (frame : List ℕ) → length frame < 2 ^ 31 → (vars : Text → ℕ) (replies : List Reply) (steps : ℕ)
-      → (m : ℕ → Arithmetic) → ((k : ℕ) (x y : ℤ) → (m k).sum x y ≡ over Cause.by_sum)
-      → run_with m steps (start frame vars replies) (program bs) ≡ beyond → ⊥
-  never-beyond-divided frame short vars replies steps m sums =
-      any-product-safe s bs accepts (start frame vars replies) steps m sums (never-by-product frame short vars replies steps)
-
-  -- and each span is a part of the frame.
-  pub inside-the-frame-divided : (frame : List ℕ) → length frame < 2 ^ 31 → (vars : Text → ℕ) (replies : List Reply) (steps : ℕ)
-      → (m : ℕ → Arithmetic) → ((k : ℕ) (x y : ℤ) → (m k).sum x y ≡ over Cause.by_sum)
-      → (σ : State) (l : List Stmt) → run_with m steps (start frame vars replies) (program bs) ≡ running σ l
-      → (x : Text) → Inside frame (σ.spans x)
-  inside-the-frame-divided frame short vars replies steps m sums σ l e =
-      inside frame vars replies steps (program bs) l σ (sym (any-product-same frame short vars replies steps m sums) ∙ e)
-
-  -- Where the lines without divisions break the premise on products, these come to a `return false;`, at the latest one step later.
-  pub turned-back : (frame : List ℕ) → length frame < 2 ^ 31 → (vars : Text → ℕ) (replies : List Reply) (steps : ℕ)
-      → run steps (start frame vars replies) (program (undivide bs)) ≡ excused Cause.by_product
-      → run (suc steps) (start frame vars replies) (program bs) ≡ returned
-  turned-back frame short vars replies steps =
-      runs-turned steps (start frame vars replies) (program bs) (program (undivide bs)) (program-checks bs) each-divided
-      (reached frame short vars replies)
 
 -- ==== What the parser gives
 
