@@ -63,7 +63,7 @@ module _ (o : Options) (s : flow.State) (kind : Kind) (width later : ℕ) where
 
   -- at an octet boundary, that of a chunk which closes
   record Same (a b : Advance) : Type 0 where
-    verdict-is : a.verdict ≡ b.verdict
+    verdict_is : a.verdict ≡ b.verdict
     lines_are : a.lines ≡ b.lines
     after_is : a.verdict ≡ Verdict.Pass → a.after ≡ b.after
 
@@ -72,15 +72,15 @@ module _ (o : Options) (s : flow.State) (kind : Kind) (width later : ℕ) where
   unfolding bit_advance close_advance
   by-test true e h =
       rw (eq-eqb _ _ h, e, bit_advance, close_advance)
-      (record { verdict-is = refl; lines_are = refl; after_is = λ v. absurd (let z : ◌≡◌ {A = ℕ} 0 1 = cc in omega arith) })
-  by-test false e h = rw (eq-eqb _ _ h, e, bit_advance, close_advance) (record { verdict-is = refl; lines_are = refl; after_is = λ v. refl })
+      (record { verdict_is = refl; lines_are = refl; after_is = λ v. absurd (let z : ◌≡◌ {A = ℕ} 0 1 = cc in omega arith) })
+  by-test false e h = rw (eq-eqb _ _ h, e, bit_advance, close_advance) (record { verdict_is = refl; lines_are = refl; after_is = λ v. refl })
 
   pub closes : (s.shift + width) % 8 ≡ 0 → {bs : List Bit} {out left : Text} {at : ℕ} {r : Step}
       → Advanced (close_advance o grown later) bs out at r left → Advanced (bit_advance o s kind width later) bs out at r left
   closes h d =
       let q : Same (close_advance o grown later) (bit_advance o s kind width later) = by-test (ltb 64 (s.shift + width)) refl h in
       record {
-        verdict-is = d.verdict-is ∙ q.verdict-is;
+        verdict_is = d.verdict_is ∙ q.verdict_is;
         wrote = like q.lines_are d.wrote;
-        goes_on = λ v. d.goes_on v ∙ q.after_is (sym d.verdict-is ∙ v);
+        goes_on = λ v. d.goes_on v ∙ q.after_is (sym d.verdict_is ∙ v);
       }

@@ -58,7 +58,7 @@ module _ (o : Options) (s : flow.State) (later : ℕ) where
     steps-wide out at f room =
         subst (λ (a : Advance). Stepped t a [] out at (wide_step t at) out) (sym (wide-advance (too_wide s.shift q f))) (record {
           advances = record {
-            verdict-is = refl;
+            verdict_is = refl;
             wrote = still out at room;
             goes_on = λ v. absurd (let z : ◌≡◌ {A = ℕ} 0 1 = cc in omega arith);
           };
@@ -72,7 +72,7 @@ module _ (o : Options) (s : flow.State) (later : ℕ) where
     steps-whole backing f {out} {l₁} {l₂} {at} {p} {r} {nr} {raws} a b e g =
         subst (λ (x : Advance). Stepped t x [] out at (closed_step r nr raws) l₂) (sym (whole-advance (has-type s.shift backing q f).0)) (record {
           advances = record {
-            verdict-is = refl;
+            verdict_is = refl;
             wrote = chain a b;
             goes_on = λ v.
                 ap (λ (x : ℕ). record { shift = 0; chunk = []; chunk_nr = x; raw_nr = raws; pending = true }) e

@@ -79,7 +79,7 @@ pub check-none : (l : Text) (i n : ℕ) (b : Bool) → b ≡ true → length l <
 unfolding check_text
 check-none l i n b e h = rw e (still l i h)
 
-pub check-first : (n : ℕ) (b : Bool) {l l₁ : Text} {i r : ℕ} → b ≡ false
+pub check_first : (n : ℕ) (b : Bool) {l l₁ : Text} {i r : ℕ} → b ≡ false
     → Put l i (text "if (span.size() < " ++ (decimal n ++ text ") {\n    return false;\n}\n")) r l₁ → Put l i (check_text b n) r l₁
 unfolding check_text
-check-first n b e p = rw e p
+check_first n b e p = rw e p

@@ -100,7 +100,7 @@ closed_step at nr raws = record { verdict = Verdict.Pass; at = at; state = recor
 
 -- an advance of the stream, with these fields in the chunk behind it
 pub record Advanced (a : Advance) (bs : List Bit) (out : Text) (at : ℕ) (r : Step) (left : Text) : Type 0 where
-  pub verdict-is : r.verdict ≡ a.verdict
+  pub verdict_is : r.verdict ≡ a.verdict
   pub wrote : Put out at a.lines r.at left
   pub goes_on : r.verdict ≡ Verdict.Pass → seen r.state bs ≡ a.after
 

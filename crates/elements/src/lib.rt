@@ -4,7 +4,7 @@
 
 ghost use Rattle.std.specs.Prelude.{[], ◌++◌};
 ghost use Rattle.definitions.specs.Lines.{lines_text, line_text, Out};
-ghost use Rattle.definitions.specs.Blocks.{span as wholeSpan, parse_lines, parse_array_element, Elem};
+ghost use Rattle.definitions.specs.Blocks.{span as whole_span, parse_lines, parse_array_element, Elem};
 ghost use Rattle.text.specs.Put.{Put};
 ghost use Rattle.expressions.specs.Statements.{stmt_bytes};
 ghost use Rattle.elements.specs.Elements.{source_of, place_of, place_start, place_end, element_of, raw_value, loop_head, loop_of, in_part, element_span_line};
@@ -128,7 +128,7 @@ fn put_scalar(
     place: Place,
 ) -> usize
     ensures { Put out.old at
-        (lines_text 4 (parse_array_element wholeSpan (Elem.scalar endianness width) (place_of id.now place) Out.out) [])
+        (lines_text 4 (parse_array_element whole_span (Elem.scalar endianness width) (place_of id.now place) Out.out) [])
         result out.new }
 {
     let p = put_place(out, at, id, place);
@@ -147,7 +147,7 @@ fn put_open_enum(
     place: Place,
 ) -> usize
     ensures { Put out.old at
-        (lines_text 4 (parse_array_element wholeSpan (Elem.open_enum type_id.now endianness width) (place_of id.now place) Out.out) [])
+        (lines_text 4 (parse_array_element whole_span (Elem.open_enum type_id.now endianness width) (place_of id.now place) Out.out) [])
         result out.new }
 {
     let p = put_place(out, at, id, place);
@@ -195,7 +195,7 @@ fn put_closed_enum(
     place: Place,
 ) -> usize
     ensures { Put out.old at
-        (lines_text 4 (parse_array_element wholeSpan (Elem.closed_enum type_id.now endianness width) (place_of id.now place) Out.out) [])
+        (lines_text 4 (parse_array_element whole_span (Elem.closed_enum type_id.now endianness width) (place_of id.now place) Out.out) [])
         result out.new }
 {
     let p = put_raw_value(out, at, type_id, endianness, width);
@@ -252,7 +252,7 @@ fn parse_array_element(
     place: Place,
 ) -> usize
     ensures { Put out.old at
-        (lines_text 4 (parse_array_element wholeSpan (element_of type_id.now element) (place_of id.now place) Out.out) [])
+        (lines_text 4 (parse_array_element whole_span (element_of type_id.now element) (place_of id.now place) Out.out) [])
         result out.new }
 {
     match element {
@@ -297,7 +297,7 @@ fn put_loop(out: &mut [u8], at: usize, arrays: Arrays, id: &[u8], head: Loop) ->
 // Lite: a loop of parsers, which store nothing.
 pub fn put_parsing(out: &mut [u8], at: usize, id: &[u8], type_id: &[u8], head: Loop) -> usize
     ensures { Put out.old at
-        (stmt_bytes (loop_of Arrays.Lite id.now head (parse_lines type_id.now wholeSpan)))
+        (stmt_bytes (loop_of Arrays.Lite id.now head (parse_lines type_id.now whole_span)))
         result out.new }
 {
     let p = put_loop(out, at, Arrays::Lite, id, head);
@@ -317,7 +317,7 @@ pub fn put_elements(
 ) -> usize
     ensures { Put out.old at
         (stmt_bytes (loop_of Arrays.Full id.now head
-        (parse_array_element wholeSpan (element_of type_id.now element) (place_of id.now place) Out.out)))
+        (parse_array_element whole_span (element_of type_id.now element) (place_of id.now place) Out.out)))
         result out.new }
 {
     let p = put_loop(out, at, Arrays::Full, id, head);

@@ -68,7 +68,7 @@ record Opened (name : Text) (o : Outcome) (later : Outcomes) (xs : List Section)
   first : Section
   others : List Section
   are : xs ≡ first ∷ others
-  name-is : first.name ≡ name
+  name_is : first.name ≡ name
   lowers : o ≡ accepted first.blocks
   short : length (section_lines first) ≤ 8192
   rest : later ≡ accepted_all others
@@ -89,7 +89,7 @@ opened name (accepted bs) later xs e = by (ltb 8192 (length (render (program bs)
           first = now;
           others = ys;
           are = cc;
-          name-is = refl;
+          name_is = refl;
           lowers = refl;
           short = ltb-false 8192 (length (render (program bs))) t;
           rest = refl;
@@ -121,7 +121,7 @@ module _ (s : Text) (h : Head) where
           let o = opened (name_of s h c) (lower_target s h c) (lower_each s h es) xs (sym (frame-lowered s h c es t) ∙ a) in
           subst (λ (l : List Entry). SectionsOf s h l xs) (sym (frame-kept c es t))
           (subst (SectionsOf s h (c ∷ frames es)) (sym o.are)
-          (k c (Memᴰ.head refl) o.first o.name-is o.lowers o.short, more (λ e m. k e (Memᴰ.tail m)) o.others o.rest))
+          (k c (Memᴰ.head refl) o.first o.name_is o.lowers o.short, more (λ e m. k e (Memᴰ.tail m)) o.others o.rest))
       by false t more =
           subst (λ (l : List Entry). SectionsOf s h l xs) (sym (other-left c es t))
           (more (λ e m. g e (subst (Memᴰ e) (sym (other-left c es t)) m)) xs (sym (other-passed s h c es t) ∙ a))

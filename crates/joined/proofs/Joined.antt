@@ -74,7 +74,7 @@ module _ (s : Text) (h : Head) (ds : List Declaration) (read : read_record s ≡
       (λ e m x name lowers short.
       let l : Lowers s h e x.blocks = record { lowers = lowers; ok = entry-ok e (frame-of (new_schema s ds) e m).0 } in
       record {
-        name-is = name;
+        name_is = name;
         lowers = lowers;
         short = short;
         single = λ fit. single-call e m fit ∙ lowers;

@@ -14,7 +14,7 @@ use Rattle.joined.specs.Calls.{name_of, call_of}
 
 -- of the entry e, in the record s with the head h
 pub record SectionOf (s : Text) (h : Head) (e : Entry) (x : Section) : Type 0 where
-  pub name-is : x.name ≡ name_of s h e
+  pub name_is : x.name ≡ name_of s h e
   pub lowers : lower_target s h e ≡ accepted x.blocks
   -- 8,192 bytes pass 19
   pub short : length (section_lines x) ≤ 8192

@@ -9,9 +9,10 @@ use annotate::ArrayParts;
 use definitions::{
     ArraySize, Arrays, Cond, DeclDesc, ElementSize, EndiannessValue, FieldDesc, Head, Options,
 };
-use libc::STDOUT_FILENO;
 use record::Reading;
 use sizes::Sizing;
+use std::io;
+use std::io::Write;
 
 // ---- where each count stands
 
@@ -283,7 +284,7 @@ fn count_read(
 }
 
 fn count_record(counts: &mut [u64; 95], rec: &[u8]) {
-    let mut out = io::large_buffer();
+    let mut out = [0u8; 65536];
     let answer = console::answer(lowering::lower(rec, &mut out));
     if answer < 20 {
         add(counts, ANSWERS + answer as usize);
@@ -332,51 +333,65 @@ fn name_end(names: &[u8], start: usize) -> usize
     end
 }
 
-fn print_count(group: &[u8], name: &[u8], count: u64) {
-    io::write_all(STDOUT_FILENO, group);
-    io::write_all(STDOUT_FILENO, b" ");
-    console::print_number(name, count);
+fn print_count<W: Write>(to: &mut W, group: &[u8], name: &[u8], count: u64) -> io::Result<()> {
+    console::print_bytes(to, group)?;
+    console::print_bytes(to, b" ")?;
+    console::print_number(to, name, count)
 }
 
 // A line `GROUP NAME=COUNT` for each of the names, which stand with a space between them; their counts stand from `from` on.
-fn print_counts(counts: &[u64; 95], from: usize, group: &[u8], names: &[u8]) {
+fn print_counts<W: Write>(
+    to: &mut W,
+    counts: &[u64; 95],
+    from: usize,
+    group: &[u8],
+    names: &[u8],
+) -> io::Result<()> {
     let mut start = 0;
     let mut i = from;
     while start < names.len() && i < 95 {
         let end = name_end(names, start);
-        print_count(group, &names[start..end], counts[i]);
+        print_count(to, group, &names[start..end], counts[i])?;
         start = end + 1;
         i += 1;
     }
+    Ok(())
 }
 
-fn main() {
+// The program, at any output.
+fn run<W: Write>(to: &mut W) -> io::Result<()> {
     let mut counts = [0u64; 95];
     count_load(&mut counts, 1, 1000);
     print_counts(
+        to,
         &counts,
         ANSWERS,
         b"answer",
         b"0 1 2 3 4 5 6 7 8 9 10 11 12 13 14 15 16 17 18 19",
-    );
-    print_counts(&counts, ENDIAN, b"endian", b"little big");
-    print_counts(&counts, ARRAYS, b"arrays", b"lite full");
+    )?;
+    print_counts(to, &counts, ENDIAN, b"endian", b"little big")?;
+    print_counts(to, &counts, ARRAYS, b"arrays", b"lite full")?;
     print_counts(
+        to,
         &counts,
         DECLS,
         b"decl",
         b"packet struct enum checksum custom",
-    );
+    )?;
     let kinds =
         b"scalar size count elemsize fixed fixedenum reserved flag typedef array payload body padding checksum";
-    print_counts(&counts, KINDS, b"field", kinds);
-    print_counts(&counts, TARGET_KINDS, b"target", kinds);
-    print_counts(&counts, OPTIONAL_KINDS, b"optional", kinds);
+    print_counts(to, &counts, KINDS, b"field", kinds)?;
+    print_counts(to, &counts, TARGET_KINDS, b"target", kinds)?;
+    print_counts(to, &counts, OPTIONAL_KINDS, b"optional", kinds)?;
     let sizes = b"StaticCount DynamicCount DynamicSize Unknown";
-    print_counts(&counts, SHAPES, b"lite Static", sizes);
-    print_counts(&counts, SHAPES + 4, b"lite Dynamic", sizes);
-    print_counts(&counts, SHAPES + 8, b"lite Unknown", sizes);
-    print_counts(&counts, SHAPES + 12, b"full Static", sizes);
-    print_counts(&counts, SHAPES + 16, b"full Dynamic", sizes);
-    print_counts(&counts, SHAPES + 20, b"full Unknown", sizes);
+    print_counts(to, &counts, SHAPES, b"lite Static", sizes)?;
+    print_counts(to, &counts, SHAPES + 4, b"lite Dynamic", sizes)?;
+    print_counts(to, &counts, SHAPES + 8, b"lite Unknown", sizes)?;
+    print_counts(to, &counts, SHAPES + 12, b"full Static", sizes)?;
+    print_counts(to, &counts, SHAPES + 16, b"full Dynamic", sizes)?;
+    print_counts(to, &counts, SHAPES + 20, b"full Unknown", sizes)
+}
+
+fn main(rt: HostRuntime) {
+    let _ = run(&mut rt.stdout());
 }

@@ -2,26 +2,42 @@
 // lines of its parser, or `refused=N`. As in `lower`, one byte more than a record may have is enough to turn it back, so the rest is read and dropped.
 #![tactic(auto)]
 
-use console::Input;
-use libc::{STDERR_FILENO, STDIN_FILENO};
+ghost use Rattle.std.specs.Prelude.{IfSome};
+ghost use Rattle.definitions.specs.All.{lower_all};
+ghost use Rattle.console.specs.Answers.{Answers};
+
+use console::{Failure, Input};
+use std::io::{Read, Write};
 
 // Lowers all targets of a record with a buffer of 65,536 bytes lent.
-fn lower_all(rec: &[u8]) {
-    let mut out = io::large_buffer();
+fn lower_all<W: Write>(rec: &[u8], to: &mut W) -> Result<(), Failure>
+    ensures { Answers result (W.contents to.old) (W.contents to.new) (lower_all rec.now 65536) }
+{
+    let mut out = [0u8; 65536];
     let word = lowering::lower_all(rec, &mut out);
-    console::print_answer(word, &out);
+    match console::print_answer(to, word, &out) {
+        Ok(()) => Ok(()),
+        Err(_) => Err(Failure::Output),
+    }
 }
 
-fn main() {
+// The program, at any input and output: what it prints is the answer to all bytes of the input.
+fn run<R: Read, W: Write>(from: &mut R, to: &mut W) -> Result<(), Failure>
+    ensures { IfSome (R.remaining from.old) (λ input. Answers result (W.contents to.old) (W.contents to.new) (lower_all input 65536)) }
+{
     let mut rec = [0u8; 16385];
-    match console::fill(STDIN_FILENO, &mut rec, 0) {
+    match console::fill(from, &mut rec, 0) {
         Input::Full(_) => {
-            console::drain(STDIN_FILENO);
-            lower_all(&rec);
+            let _ = console::drain(from);
+            lower_all(&rec, to)
         }
-        Input::Ended(n) => lower_all(console::front(&rec, n)),
-        Input::Failed => {
-            io::write_all(STDERR_FILENO, b"lower_all: standard input cannot be read\n");
-        }
+        Input::Ended(n) => lower_all(console::front(&rec, n), to),
+        Input::Failed => Err(Failure::Input),
+    }
+}
+
+fn main(rt: HostRuntime) {
+    if let Err(Failure::Input) = run(&mut rt.stdin(), &mut rt.stdout()) {
+        let _ = rt.eprint("lower_all: standard input cannot be read\n");
     }
 }

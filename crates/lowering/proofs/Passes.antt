@@ -44,17 +44,17 @@ use Rattle.lowering.specs.Steps.{Gives, Answers, lowered_by, AnswersTold, ToldFi
 -- a refusal: no byte is changed
 pub refuses-all : (why : Refusal) (out : Text) {r : ℕ} → r ≡ number why * 2 ^ 32 → Answers (refused why) out r out
 unfolding lowered
-refuses-all why out e = record { number_is = omega (arith, e); buffer-is = refl }
+refuses-all why out e = record { number_is = omega (arith, e); buffer_is = refl }
 
 pub refuses-each : (why : Refusal) (out : Text) {r : ℕ} → r ≡ number why * 2 ^ 32 → Gives (lowered_all (length out) (refused_all why)) out r out
 unfolding lowered_all
-refuses-each why out e = record { number_is = omega (arith, e); buffer-is = refl }
+refuses-each why out e = record { number_is = omega (arith, e); buffer_is = refl }
 
 -- ---- what is told
 
 module _ (d : Told) where
   pub told-refused : {why : Refusal} → d.verdict ≡ Verdict.Refuse why → {out : Text} {r : ℕ} → r ≡ number why * 2 ^ 32 → AnswersTold d out r out
-  told-refused said e = record { number_is = rw (said) (omega (arith, e)); buffer-is = rw (said) }
+  told-refused said e = record { number_is = rw (said) (omega (arith, e)); buffer_is = rw (said) }
 
   module _ (said : d.verdict ≡ Verdict.Pass) where
     wrote : {b x : Text} {q : Lowered} → Tells d b 0 q x → Put b 0 d.lines q.at x
@@ -64,7 +64,7 @@ module _ (d : Told) where
     unfolding fitted
     told-long {out} long e = record {
       number_is = rw (said, fitted, lt-leb (length d.lines) (length out) long) (omega (arith, e));
-      buffer-is = rw (said, fitted, lt-leb (length d.lines) (length out) long);
+      buffer_is = rw (said, fitted, lt-leb (length d.lines) (length out) long);
     }
 
     pub told-written : {out : Text} → length d.lines ≤ length out → {q : Lowered} {x : Text} → Tells d out 0 q x → AnswersTold d out q.at x
@@ -72,7 +72,7 @@ module _ (d : Told) where
     told-written {out} short su = record {
       number_is =
           rw (said, fitted, le-leb (length d.lines) (length out) short) (omega (arith, short, (wrote su).next, (wrote su).room));
-      buffer-is =
+      buffer_is =
           rw (said, fitted, le-leb (length d.lines) (length out) short)
           ((wrote su).written ∙ sets-eq d.lines out 0 (omega (arith, short)) ∙ ap (λ (k : ℕ). d.lines ++ drop k out) (zero-add (length d.lines)));
     }
@@ -81,7 +81,7 @@ module _ (d : Told) where
 
 module _ (d : Told) {buf left : Text} {l : Lowered} (st : Tells d buf 0 l left) where
   as-told : {v : Verdict} → l.verdict ≡ v → d.verdict ≡ v
-  as-told hv = sym st.verdict-is ∙ hv
+  as-told hv = sym st.verdict_is ∙ hv
 
   pub pass-refused : {why : Refusal} → l.verdict ≡ Verdict.Refuse why → {out : Text} {r : ℕ} → r ≡ number why * 2 ^ 32 → AnswersTold d out r out
   pass-refused hv e = told-refused d (as-told hv) e
@@ -125,7 +125,7 @@ told-lowered room o v t e = outcome-in room o ∙ ap (result_in room) e ∙ told
 told-answers : (o : Outcome) (d : Told) → rendered o ≡ result_of d → {out left : Text} {r : ℕ} → AnswersTold d out r left → Answers o out r left
 told-answers o d e {out} {left} {r} a = record {
   number_is = rw (told-lowered (length out) o d.verdict d.lines e) a.number_is;
-  buffer-is = rw (told-lowered (length out) o d.verdict d.lines e) a.buffer-is;
+  buffer_is = rw (told-lowered (length out) o d.verdict d.lines e) a.buffer_is;
 }
 
 -- where the lines of the outcome are short, what is told fits
@@ -191,7 +191,7 @@ nothing : (c : Setting) (out : Text) → Answers (lower_fields c []) out 0 out
 unfolding lower_fields parse_all check_code lowered fitted
 nothing c out = record {
   number_is = rw (fitted, le-leb 0 (length out) (omega arith));
-  buffer-is = rw (fitted, le-leb 0 (length out) (omega arith));
+  buffer_is = rw (fitted, le-leb 0 (length out) (omega arith));
 }
 
 pub none_answers : (t : Tables) (i n : ℕ) (o : Options) → n ≡ 0 → {out : Text} → Answers (lower_fields (setting_at t i n o) (rest_at t i n 0)) out 0 out

@@ -90,9 +90,9 @@ module _ {s : Text} {t u : Tables} {x : Reading} (k : OfRecord s t x u) where
 pub gives-target : (s : Text) {out left : Text} {r : ℕ} → Gives (lower_for Wanted.Target s (length out)) out r left
     → (r ≡ word (lower s (length out))) × (left ≡ buffer_after (lower s (length out)) out)
 unfolding lower_for
-gives-target s g = (g.number_is, g.buffer-is)
+gives-target s g = (g.number_is, g.buffer_is)
 
 pub gives_all : (s : Text) {out left : Text} {r : ℕ} → Gives (lower_for Wanted.All s (length out)) out r left
     → (r ≡ word (lower_all s (length out))) × (left ≡ buffer_after (lower_all s (length out)) out)
 unfolding lower_for
-gives_all s g = (g.number_is, g.buffer-is)
+gives_all s g = (g.number_is, g.buffer_is)

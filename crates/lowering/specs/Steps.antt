@@ -20,7 +20,7 @@ use Rattle.lowering.specs.declared.Wanted.{Wanted}
 -- the number, and what the buffer then holds
 pub record Gives (l : Lowered) (out : Text) (r : ℕ) (left : Text) : Type 0 where
   pub number_is : r ≡ word l
-  pub buffer-is : left ≡ buffer_after l out
+  pub buffer_is : left ≡ buffer_after l out
 
 -- for an outcome: 15 on top
 abbrev pub Answers : Outcome → Text → ℕ → Text → Type 0

@@ -55,7 +55,7 @@ pub record Demand3 (c : Setting) (bs : List Block) : Type 0 where
   pub number_is : (r : CheckedRun bs) → (r.number ≡ all_widths r.chunks / 8) × (8 * r.number ≡ all_widths r.chunks)
   -- The checked runs, in order, are the runs of the target's bit fields: the chunks of each are the groups that were closed since the flush before, each
   -- field with the width that the record gives it.
-  pub runs-are : runs_in bs ≡ placed_runs c (runs c)
+  pub runs_are : runs_in bs ≡ placed_runs c (runs c)
   -- Wherever a checked run is run to its end, from the state σ to the state τ, the number is that of the bytes it reads and skips; and these were the
   -- first of the span.
   pub run-to-its-end : (r : CheckedRun bs) (σ τ : State) → Passes (run_lines r) (behind_run r) σ τ
@@ -72,7 +72,7 @@ demand-3-of s h e bs l =
       from-any-block = λ pre post f σ steps. never post (later-ok pre post (subst BlocksOk f ok)) σ steps;
       inside-the-frame = λ frame vars replies steps σ l f. inside frame vars replies steps (program bs) l σ f;
       number_is = λ r. number-widths r.number r.chunks (checked-ok-of s h e bs l r);
-      runs-are = (shaped_of s h e bs l).runs-are;
+      runs_are = (shaped_of s h e bs l).runs_are;
       run-to-its-end = λ r. ended-moved bs r (checked-ok-of s h e bs l r);
       behind-is-ended = λ r. come-behind bs r (checked-ok-of s h e bs l r);
     }

@@ -264,7 +264,7 @@ module _ (c : Setting) (rows : RowsOk c.scope) where
 
 -- the checked runs are the runs of the fields, with the head's choices
 pub record Shaped (c : Setting) (bs : List Block) : Type 0 where
-  pub runs-are : runs_in bs ≡ placed_runs c (runs c)
+  pub runs_are : runs_in bs ≡ placed_runs c (runs c)
   pub options : AllOptions c.options bs
 
 abbrev OutcomeShaped : Setting → Outcome → Type 0
@@ -280,7 +280,7 @@ lower-shaped c rows xs fit are =
   where
     by : (s : Step) → Adds c rows [] (runs c) s → OutcomeShaped c (code_of s)
     by (stop why) m = tt
-    by (go p) m = record { runs-are = m.0; options = m.1 tt }
+    by (go p) m = record { runs_are = m.0; options = m.1 tt }
 
 -- of any entry whose fields give these blocks
 pub shaped_of : (s : Text) (h : Head) (e : Entry) (bs : List Block) → Lowers s h e bs → Shaped (setting_of s h e) bs

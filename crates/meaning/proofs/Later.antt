@@ -34,7 +34,7 @@ module _ (n : ℕ) where
       bits = h.0.bits;
       array = h.0.array;
       rest = h.0.rest;
-      blocks-are = ap (λ (l : List Block). a ++ l) h.0.blocks-are ∙ sym (append_assoc a h.0.pre _);
+      blocks_are = ap (λ (l : List Block). a ++ l) h.0.blocks_are ∙ sym (append_assoc a h.0.pre _);
     },
     h.1,
   )
@@ -48,7 +48,7 @@ module _ (n : ℕ) where
       bits = h.0.bits;
       array = h.0.array;
       rest = h.0.rest ++ a;
-      blocks-are = ap (λ (l : List Block). l ++ a) h.0.blocks-are ∙ append_assoc h.0.pre _ a;
+      blocks_are = ap (λ (l : List Block). l ++ a) h.0.blocks_are ∙ append_assoc h.0.pre _ a;
     },
     h.1,
   )
@@ -76,7 +76,7 @@ module _ (n : ℕ) where
     b ∷ [],
     refl,
     (
-      record { pre = []; bytes = n / 8; modifier = h.0; bits = h.1; array = h.2; rest = []; blocks-are = ap (λ (d : Block). d ∷ []) h.3 },
+      record { pre = []; bytes = n / 8; modifier = h.0; bits = h.1; array = h.2; rest = []; blocks_are = ap (λ (d : Block). d ∷ []) h.3 },
       refl,
     ),
   )
@@ -161,5 +161,5 @@ array_placed c later bs l between a behind are n e =
     by (go r) g f =
         let same : bs ≡ r.code = cc in
         let code : l.parser.code ++ l.post ≡ bs =
-        ap (λ (d : List Block). d ++ l.post) l.placed.code_is ∙ append_assoc l.placed.pre _ l.post ∙ sym l.blocks-are in
+        ap (λ (d : List Block). d ++ l.post) l.placed.code_is ∙ append_assoc l.placed.pre _ l.post ∙ sym l.blocks_are in
         subst (Has n) (same-behind l.parser.code g.0 l.post (sym g.1 ∙ sym same ∙ sym code)) g.2

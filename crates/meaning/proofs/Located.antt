@@ -31,7 +31,7 @@ nowhere (x ∷ X) a Y e = let z : ◌≡◌ {A = ℕ} 0 1 = cc in omega arith
 -- a checked run with the chunks R, behind the runs X
 record Spot (bs : List Block) (R : List (List Bit)) (X : List (List (List Bit))) : Type 0 where
   pub run : CheckedRun bs
-  pub chunks-are : fields_of run.chunks ≡ R
+  pub chunks_are : fields_of run.chunks ≡ R
   pub ahead : runs_in run.pre ≡ X
 
 more-blocks : (b : Block) (bs : List Block) (R : List (List Bit)) (X : List (List (List Bit))) → Spot bs R X → Spot (b ∷ bs) R (block_run b ++ X)
@@ -44,9 +44,9 @@ more-blocks b bs R X s =
             number = s.run.number;
             chunks = s.run.chunks;
             post = s.run.post;
-            blocks-are = ap (λ (l : List Block). b ∷ l) s.run.blocks-are;
+            blocks_are = ap (λ (l : List Block). b ∷ l) s.run.blocks_are;
           };
-      chunks-are = s.chunks-are;
+      chunks_are = s.chunks_are;
       ahead = ap (λ (l : List (List (List Bit))). block_run b ++ l) s.ahead;
     }
 
@@ -54,8 +54,8 @@ find : (bs : List Block) (R : List (List Bit)) (Y X : List (List (List Bit))) �
 find [] R Y X e = absurd (nowhere X R Y e)
 find (Block.checked o n cs ∷ bs) R Y [] e =
     record {
-      run = record { pre = []; options = o; number = n; chunks = cs; post = bs; blocks-are = refl };
-      chunks-are = first-is e;
+      run = record { pre = []; options = o; number = n; chunks = cs; post = bs; blocks_are = refl };
+      chunks_are = first-is e;
       ahead = refl;
     }
 find (Block.checked o n cs ∷ bs) R Y (x ∷ X) e =
@@ -79,7 +79,7 @@ options-at o (d ∷ pre) b post h = options-at o pre b post h.1
 
 options-of : (bs : List Block) (o : Options) → AllOptions o bs → (r : CheckedRun bs) → r.options ≡ o
 options-of bs o h r =
-    options-at o r.pre (Block.checked r.options r.number r.chunks) r.post (subst (AllOptions o) r.blocks-are h)
+    options-at o r.pre (Block.checked r.options r.number r.chunks) r.post (subst (AllOptions o) r.blocks_are h)
 
 -- ---- a chunk in its run
 
@@ -89,7 +89,7 @@ record Within (cs : List Chunk) (F : List Bit) (Y X : List (List Bit)) : Type 0 
   pub nr : ℕ
   pub raw_nr : ℕ
   pub later : List Chunk
-  pub chunks-are : cs ≡ earlier ++ (record { nr = nr; raw_nr = raw_nr; fields = F } ∷ later)
+  pub chunks_are : cs ≡ earlier ++ (record { nr = nr; raw_nr = raw_nr; fields = F } ∷ later)
   pub ahead : fields_of earlier ≡ X
   pub behind : fields_of later ≡ Y
 
@@ -101,7 +101,7 @@ among (c ∷ cs) F Y [] e =
       nr = c.nr;
       raw_nr = c.raw_nr;
       later = cs;
-      chunks-are = ap (λ (fs : List Bit). let k : Chunk = record { nr = c.nr; raw_nr = c.raw_nr; fields = fs } in k ∷ cs) (first-is e);
+      chunks_are = ap (λ (fs : List Bit). let k : Chunk = record { nr = c.nr; raw_nr = c.raw_nr; fields = fs } in k ∷ cs) (first-is e);
       ahead = refl;
       behind = rest-is e;
     }
@@ -112,7 +112,7 @@ among (c ∷ cs) F Y (x ∷ X) e =
       nr = t.nr;
       raw_nr = t.raw_nr;
       later = t.later;
-      chunks-are = ap (λ (l : List Chunk). c ∷ l) t.chunks-are;
+      chunks_are = ap (λ (l : List Chunk). c ∷ l) t.chunks_are;
       ahead = cons-is (first-is e) t.ahead;
       behind = t.behind;
     }
@@ -134,19 +134,19 @@ chunk_of bs c h d =
     let r : List (List Field) = d.groups_before ++ (group_of d ∷ d.groups_after) in
     let t : Spot bs (placed_run c r) (placed_runs c d.runs_before) =
     find bs (placed_run c r) (placed_runs c d.runs_after) (placed_runs c d.runs_before)
-    (h.runs-are ∙ ap (placed_runs c) d.runs-are ∙ placed-runs c d.runs_before r d.runs_after) in
+    (h.runs_are ∙ ap (placed_runs c) d.runs_are ∙ placed-runs c d.runs_before r d.runs_after) in
     let w : Within t.run.chunks (placed c 0 (group_of d)) (placed_run c d.groups_after) (placed_run c d.groups_before) =
     among t.run.chunks (placed c 0 (group_of d)) (placed_run c d.groups_after) (placed_run c d.groups_before)
-    (t.chunks-are ∙ placed-run c d.groups_before (group_of d) d.groups_after) in
+    (t.chunks_are ∙ placed-run c d.groups_before (group_of d) d.groups_after) in
     record {
       in_run = t.run;
       earlier = w.earlier;
       nr = w.nr;
       raw_nr = w.raw_nr;
       later = w.later;
-      chunks-are = w.chunks-are;
-      runs-ahead = t.ahead;
-      groups-ahead = w.ahead;
-      groups-behind = w.behind;
-      options-are = options-of bs c.options h.options t.run;
+      chunks_are = w.chunks_are;
+      runs_ahead = t.ahead;
+      groups_ahead = w.ahead;
+      groups_behind = w.behind;
+      options_are = options-of bs c.options h.options t.run;
     }

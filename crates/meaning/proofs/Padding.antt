@@ -112,7 +112,7 @@ padding-among bs a =
     let b : Block = Block.padded_array a.bytes a.modifier a.bits a.array in
     omega (
       arith,
-      ap (λ (ds : List Block). length (program ds)) a.blocks-are,
+      ap (λ (ds : List Block). length (program ds)) a.blocks_are,
       more-lines a.pre (b ∷ a.rest),
       more-lines (b ∷ []) a.rest,
     )
@@ -125,14 +125,14 @@ module _ (bs : List Block) (ok : BlocksOk bs) (a : PaddedIn bs) (σ : State) (k 
   pub padded-takes : ComeTo (behind_padding a) bs σ k → TakesPadded bs a σ k
   padded-takes c =
       from
-      (subst (λ (ds : List Block). Through (program ds) (from_array a) σ c.steps c.state c.left) (sym a.blocks-are)
+      (subst (λ (ds : List Block). Through (program ds) (from_array a) σ c.steps c.state c.left) (sym a.blocks_are)
       (reach a.pre blocks c.steps σ c.state c.left
-      (subst (λ (ds : List Block). run c.steps σ (program ds) ≡ running c.state c.left) a.blocks-are c.stood)
+      (subst (λ (ds : List Block). run c.steps σ (program ds) ≡ running c.state c.left) a.blocks_are c.stood)
       (omega (arith, c.short, more-lines (take 1 blocks) a.rest))))
     where
       from : Through (program bs) (from_array a) σ c.steps c.state c.left → TakesPadded bs a σ k
       from t =
-          let good : BlocksOk blocks = later-ok a.pre blocks (subst BlocksOk a.blocks-are ok) in
+          let good : BlocksOk blocks = later-ok a.pre blocks (subst BlocksOk a.blocks_are ok) in
           let f = filled a.bytes a.modifier a.bits a.array a.rest good t.state t.more c.state c.left c.short t.goes in
           let h = end_of blocks good f.0 t.state f.1 (behind_padding a) f.3 in
           let s : List ℕ = t.state.spans span in

@@ -44,7 +44,7 @@ pub record PayloadEnds (bs : List Block) (c : Setting) (later : List Annotated) 
   pub code_is : parser.code ≡ pre ++ (unsized_payload (payload_name c (text "_")) bits ∷ [])
   pub goes_on : code_of (and_then (parse_all c parser later) (done c)) ≡ accepted bs
   pub post : List Block
-  pub blocks-are : bs ≡ pre ++ (unsized_payload (payload_name c (text "_")) bits ∷ post)
+  pub blocks_are : bs ≡ pre ++ (unsized_payload (payload_name c (text "_")) bits ∷ post)
   -- In every frame that is accepted, whatever the variables hold at the start, whatever each nested parser consumes and answers, and whatever each test
   -- of an enum answers, the payload ends `bits / 8` bytes before the frame's end.
   pub accepted-frame : (frame : List ℕ) (vars : Text → ℕ) (replies : List Reply) (k : ℕ) → run k (start frame vars replies) (program bs) ≡ ended
@@ -180,22 +180,22 @@ module _ (s : Text) (bs : List Block) (e : answer s ≡ accepted bs) (t : Target
 
   -- of the blocks as they are placed
   place_ok : BlocksOk (p.placed.pre ++ (b ∷ p.post))
-  place_ok = subst BlocksOk p.blocks-are (blocks-ok s bs e)
+  place_ok = subst BlocksOk p.blocks_are (blocks-ok s bs e)
 
   place-splits : Splits x n b
   place-splits = payload-splits x (payload-span (setting s t).options.arrays) p.placed.bits
 
   come : (place : List Stmt) → ComeTo place bs origin k → ComeTo place (p.placed.pre ++ (b ∷ p.post)) origin k
-  come place m = subst (λ (ds : List Block). ComeTo place ds origin k) p.blocks-are m
+  come place m = subst (λ (ds : List Block). ComeTo place ds origin k) p.blocks_are m
 
   answer-ends : ComeTo (program p.post) bs origin k → EndsBefore bs p.post x n frame origin k
   answer-ends m =
-      subst (λ (ds : List Block). EndsBefore ds p.post x n frame origin k) (sym p.blocks-are)
+      subst (λ (ds : List Block). EndsBefore ds p.post x n frame origin k) (sym p.blocks_are)
       (behind-ends p.placed.pre b p.post place_ok x n place-splits frame vars replies k (come (program p.post) m))
 
   answer-array : (a : PaddedIn p.post) → ComeTo (behind_padding a) bs origin k → ArrayBehind bs p.post a x n frame origin k
   answer-array a c =
-      subst (λ (ds : List Block). ArrayBehind ds p.post a x n frame origin k) (sym p.blocks-are)
+      subst (λ (ds : List Block). ArrayBehind ds p.post a x n frame origin k) (sym p.blocks_are)
       (array-ends p.placed.pre b p.post place_ok x n place-splits frame vars replies k a (come (behind_padding a) c))
 
 -- For every record that is accepted, and a payload or body of its target without a size field.
@@ -222,7 +222,7 @@ payload-ends s bs e t f mode before a later are payload unsized =
           code_is = p.placed.code_is;
           goes_on = p.goes_on;
           post = p.post;
-          blocks-are = p.blocks-are;
+          blocks_are = p.blocks_are;
           accepted-frame =
               λ frame vars replies k g.
               answer-ends s bs e t later p frame vars replies k (ended-behind (program p.post) bs (start frame vars replies) k g);

@@ -172,7 +172,7 @@ module _ (c : Setting) (later : List Annotated) where
     pub placed : Placed parser
     pub goes_on : lower_from c parser later ≡ accepted bs
     pub post : List Block
-    pub blocks-are : bs ≡ placed.pre ++ (unsized_payload (payload_name c (text "_")) placed.bits ∷ post)
+    pub blocks_are : bs ≡ placed.pre ++ (unsized_payload (payload_name c (text "_")) placed.bits ∷ post)
 
   lowered-behind : (bs : List Block) (q : FieldParser) → Placed q → lower_from c q later ≡ accepted bs → LoweredBehind bs
   lowered-behind bs q h e =
@@ -187,7 +187,7 @@ module _ (c : Setting) (later : List Annotated) where
             placed = h;
             goes_on = e;
             post = g.0;
-            blocks-are = same ∙ g.1 ∙ ap (λ (l : List Block). l ++ g.0) h.code_is ∙ append_assoc h.pre _ g.0;
+            blocks_are = same ∙ g.1 ∙ ap (λ (l : List Block). l ++ g.0) h.code_is ∙ append_assoc h.pre _ g.0;
           }
 
   module _ (unsized : has_payload_size c.source c.fields ≡ false) where

@@ -32,7 +32,7 @@ use Rattle.meaning.proofs.Values.{taken-is-fetched, placed-widths, at-chunk, Tak
 -- of any entry whose fields give these blocks
 pub checked-ok-of : (s : Text) (h : Head) (e : Entry) (bs : List Block) → Lowers s h e bs → (r : CheckedRun bs) → CheckedOk r.number r.chunks
 checked-ok-of s h e bs l r =
-    block-ok r.pre (Block.checked r.options r.number r.chunks) r.post (subst BlocksOk r.blocks-are (blocks-ok-of s h e bs l))
+    block-ok r.pre (Block.checked r.options r.number r.chunks) r.post (subst BlocksOk r.blocks_are (blocks-ok-of s h e bs l))
 
 -- so of an accepted record's target
 pub checked-ok : (s : Text) (bs : List Block) → answer s ≡ accepted bs → (r : CheckedRun bs) → CheckedOk r.number r.chunks
@@ -53,16 +53,16 @@ ended-moved bs r ok σ τ p =
 
 module _ (bs : List Block) (r : CheckedRun bs) (σ υ : State) (k : ℕ) (l : List Stmt) (came : run k σ (program bs) ≡ running υ l) where
   -- a run that has come to the check or further stood before it
-  pub stood-before : length l ≤ length (body (run_lines r) (behind_run r)) → Through (program bs) (body (run_lines r) (behind_run r)) σ k υ l
-  stood-before h =
-      subst (λ (ds : List Block). Through (program ds) (body (run_lines r) (behind_run r)) σ k υ l) (sym r.blocks-are)
+  pub stood_before : length l ≤ length (body (run_lines r) (behind_run r)) → Through (program bs) (body (run_lines r) (behind_run r)) σ k υ l
+  stood_before h =
+      subst (λ (ds : List Block). Through (program ds) (body (run_lines r) (behind_run r)) σ k υ l) (sym r.blocks_are)
       (reach r.pre (Block.checked r.options r.number r.chunks ∷ r.post) k σ υ l
-      (subst (λ (ds : List Block). run k σ (program ds) ≡ running υ l) r.blocks-are came) h)
+      (subst (λ (ds : List Block). run k σ (program ds) ≡ running υ l) r.blocks_are came) h)
 
   -- one that has come behind it passed all of it without a `return false`
   passed-all : CheckedOk r.number r.chunks → length l ≤ length (behind_run r) → RunToItsEnd bs r σ k
   passed-all ok h =
-      let t = stood-before (omega (arith, body-length (run_lines r) (behind_run r))) in
+      let t = stood_before (omega (arith, body-length (run_lines r) (behind_run r))) in
       let p =
       passed (run_lines r) (Moved r.number t.state) (behind_run r) l t.state υ t.more
       (run_moved r.options r.number r.chunks ok t.state) t.goes h in
@@ -113,9 +113,9 @@ module _ (bs : List Block) (c : Setting) (d : BitField c) (h : ChunkOf bs c d) (
 
   run-split : body (run_lines h.in_run) (behind_run h.in_run) ≡ body before (at_chunk bs c d h)
   run-split =
-      ap (λ (o : Options). body (check_size (Expr.lit h.in_run.number) ∷ chunks_lines o h.in_run.chunks) (behind_run h.in_run)) h.options-are
+      ap (λ (o : Options). body (check_size (Expr.lit h.in_run.number) ∷ chunks_lines o h.in_run.chunks) (behind_run h.in_run)) h.options_are
       ∙ ap (λ (ls : List Line). body (check_size (Expr.lit h.in_run.number) ∷ ls) (behind_run h.in_run))
-      (ap (chunks_lines c.options) h.chunks-are ∙ chunks-split c.options h.earlier (its ∷ h.later))
+      (ap (chunks_lines c.options) h.chunks_are ∙ chunks-split c.options h.earlier (its ∷ h.later))
       ∙ body-append before _ (behind_run h.in_run)
 
   -- there are bytes enough for its chunk
@@ -130,14 +130,14 @@ module _ (bs : List Block) (c : Setting) (d : BitField c) (h : ChunkOf bs c d) (
   front-ok (x ∷ a) b k = (k.0, front-ok a b k.1)
 
   earlier-octets : offsets h.earlier ≡ all_widths h.earlier / 8
-  earlier-octets = omega (arith, eight-widths h.earlier (front-ok h.earlier (its ∷ h.later) (subst ChunksOk h.chunks-are ok.chunks)))
+  earlier-octets = omega (arith, eight-widths h.earlier (front-ok h.earlier (its ∷ h.later) (subst ChunksOk h.chunks_are ok.chunks)))
 
   before-enough : (σ : State) → wp_lines before (Here σ) σ
   before-enough σ = (
     λ _. tt,
     λ le.
         let sum : offsets h.in_run.chunks ≡ offsets h.earlier + (widths (placed c 0 (group_of d)) / 8 + offsets h.later) =
-        ap offsets h.chunks-are ∙ offsets-split h.earlier its h.later in
+        ap offsets h.chunks_are ∙ offsets-split h.earlier its h.later in
         let w : widths (placed c 0 (group_of d)) / 8 ≡ bits_in c (group_of d) / 8 = ap (λ (n : ℕ). n / 8) (placed-widths c 0 (group_of d)) in
         subst (λ (ls : List Line). wp_lines ls (Here σ) σ) (append-nil (chunks_lines c.options h.earlier))
         (chunks-then c.options h.earlier [] (Here σ) σ (omega (arith, ok.number, sum))
@@ -165,7 +165,7 @@ module _ (bs : List Block) (c : Setting) (d : BitField c) (h : ChunkOf bs c d) (
   chunk-in-field = omega (arith, ap length (at-chunk bs c d h), body-length (lines_ahead bs c d h) (at_field bs c d h))
 
   spares : SparesAll (chunk_name h.nr) (placed c 0 (group_of d))
-  spares = (chunk-at h.earlier its h.later (subst ChunksOk h.chunks-are ok.chunks)).spares h.nr
+  spares = (chunk-at h.earlier its h.later (subst ChunksOk h.chunks_are ok.chunks)).spares h.nr
 
   -- from where it stands before the chunk: the lines ahead of the field, and its own
   module _ (σ : State) (k steps more : ℕ) (found υ : State) (l : List Stmt) (count : steps + more ≡ k)
@@ -179,9 +179,9 @@ module _ (bs : List Block) (c : Setting) (d : BitField c) (h : ChunkOf bs c d) (
           lines_are = at-chunk bs c d h;
           check_steps = check_steps;
           at_check = ρ;
-          stood-before = stood_before;
+          stood_before = stood_before;
           steps = steps;
-          check-first = early;
+          check_first = early;
           within = omega arith;
           found = found;
           stood = stood;
@@ -240,7 +240,7 @@ module _ (bs : List Block) (c : Setting) (d : BitField c) (h : ChunkOf bs c d) (
         (subst (λ (ls : List Stmt). run t.more t.state ls ≡ running υ l) run-split t.goes) (omega (arith, chunk-in-field)))
 
     at-present : Given bs c d h σ k
-    at-present = from-through (stood-before bs h.in_run σ υ k l came (omega (arith, field_in_run)))
+    at-present = from-through (stood_before bs h.in_run σ υ k l came (omega (arith, field_in_run)))
 
   -- at the present step or at an earlier one
   pub given-bits : (frame : List ℕ) → Octets frame → (vars : Text → ℕ) (replies : List Reply) (k : ℕ)
@@ -252,9 +252,9 @@ module _ (bs : List Block) (c : Setting) (d : BitField c) (h : ChunkOf bs c d) (
         lines_are = g.lines_are;
         check_steps = g.check_steps;
         at_check = g.at_check;
-        stood-before = g.stood-before;
+        stood_before = g.stood_before;
         steps = g.steps;
-        check-first = g.check-first;
+        check_first = g.check_first;
         within = omega (arith, g.within, m.within);
         found = g.found;
         stood = g.stood;

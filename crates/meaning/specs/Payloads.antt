@@ -50,7 +50,7 @@ pub record PaddedIn (bs : List Block) : Type 0 where
   pub bits : ℕ
   pub array : Array
   pub rest : List Block
-  pub blocks-are : bs ≡ pre ++ (Block.padded_array bytes modifier bits array ∷ rest)
+  pub blocks_are : bs ≡ pre ++ (Block.padded_array bytes modifier bits array ∷ rest)
 
 -- its lines, and those behind them
 abbrev pub from_array : {bs : List Block} → PaddedIn bs → List Stmt

@@ -19,7 +19,7 @@ pub record BitField (c : Setting) : Type 0 where
   pub after : List Field
   pub groups_after : List (List Field)
   pub runs_after : List (List (List Field))
-  pub runs-are : runs c ≡ runs_before ++ ((groups_before ++ ((before ++ (field ∷ after)) ∷ groups_after)) ∷ runs_after)
+  pub runs_are : runs c ≡ runs_before ++ ((groups_before ++ ((before ++ (field ∷ after)) ∷ groups_after)) ∷ runs_after)
   pub has_value : is_reserved (kind_of c field.desc) ≡ false
 
 -- its group
@@ -38,11 +38,11 @@ pub record ChunkOf (bs : List Block) (c : Setting) (d : BitField c) : Type 0 whe
   pub nr : ℕ
   pub raw_nr : ℕ
   pub later : List Chunk
-  pub chunks-are : in_run.chunks ≡ earlier ++ (group_chunk c nr raw_nr (group_of d) ∷ later)
-  pub runs-ahead : runs_in in_run.pre ≡ placed_runs c d.runs_before
-  pub groups-ahead : fields_of earlier ≡ placed_run c d.groups_before
-  pub groups-behind : fields_of later ≡ placed_run c d.groups_after
-  pub options-are : in_run.options ≡ c.options
+  pub chunks_are : in_run.chunks ≡ earlier ++ (group_chunk c nr raw_nr (group_of d) ∷ later)
+  pub runs_ahead : runs_in in_run.pre ≡ placed_runs c d.runs_before
+  pub groups_ahead : fields_of earlier ≡ placed_run c d.groups_before
+  pub groups_behind : fields_of later ≡ placed_run c d.groups_after
+  pub options_are : in_run.options ≡ c.options
 
 -- the only field of its group
 abbrev pub alone : List Field → List Field → Bool
@@ -112,10 +112,10 @@ pub record Given (bs : List Block) (c : Setting) (d : BitField c) (h : ChunkOf b
   -- the run stood before the check of the field's run
   pub check_steps : ℕ
   pub at_check : State
-  pub stood-before : run check_steps σ (program bs) ≡ running at_check (body (run_lines h.in_run) (behind_run h.in_run))
+  pub stood_before : run check_steps σ (program bs) ≡ running at_check (body (run_lines h.in_run) (behind_run h.in_run))
   -- and then, after so many steps in all, before the lines of its chunk
   pub steps : ℕ
-  pub check-first : check_steps ≤ steps
+  pub check_first : check_steps ≤ steps
   pub within : steps ≤ k
   pub found : State
   pub stood : run steps σ (program bs) ≡ running found (at_chunk bs c d h)

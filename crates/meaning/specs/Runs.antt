@@ -27,7 +27,7 @@ pub record CheckedRun (bs : List Block) : Type 0 where
   pub number : ℕ
   pub chunks : List Chunk
   pub post : List Block
-  pub blocks-are : bs ≡ pre ++ (Block.checked options number chunks ∷ post)
+  pub blocks_are : bs ≡ pre ++ (Block.checked options number chunks ∷ post)
 
 -- its lines
 abbrev pub run_lines : {bs : List Block} → CheckedRun bs → List Line

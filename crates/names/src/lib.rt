@@ -3,7 +3,7 @@
 #![tactic(auto)]
 
 ghost use Rattle.std.specs.Prelude.{◌≡◌, ◌≤◌, drop};
-ghost use Rattle.definitions.specs.Bytes.{is_digit, is_word, same, part as partText};
+ghost use Rattle.definitions.specs.Bytes.{is_digit, is_word, same, part as part_text};
 ghost use Rattle.definitions.specs.Record.{key_at, number_at, some_digits, is_forbidden, name_of, name_at};
 ghost use Rattle.definitions.specs.Sizes.{same_name, is_payload_id};
 ghost use Rattle.names.specs.Written.{field_name, name_text};
@@ -203,7 +203,7 @@ pub fn name_at(rec: &[u8], at: usize) -> NameRead
 
 // The bytes of a part of the record, as far as there are any.
 pub fn part(rec: &[u8], p: Part) -> &[u8]
-    ensures { result.now ≡ partText rec.now p }
+    ensures { result.now ≡ part_text rec.now p }
 {
     let n = rec.len();
     let a = p.start;

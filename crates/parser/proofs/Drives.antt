@@ -112,7 +112,7 @@ module _ (o : Options) (s : Text) (plan : List PlanAt) (n : ℕ) (out₀ : Text)
       → Tells x out₀ at (record { verdict = Verdict.Refuse why; at = at }) left
   stopped {why} {lines} {left} e put =
       subst (λ (x : Told). Tells x out₀ at (record { verdict = Verdict.Refuse why; at = at }) left) (sym e)
-      (record { verdict-is = refl; wrote = (refl, put.written) })
+      (record { verdict_is = refl; wrote = (refl, put.written) })
 
   module _ (out : Text) (p k : ℕ) (t : State) (c : Chunk) (kinds : List Held) (run : Run out p k t c kinds) where
     -- ---- `done`
@@ -122,7 +122,7 @@ module _ (o : Options) (s : Text) (plan : List PlanAt) (n : ℕ) (out₀ : Text)
         let g : Goes bits out p k t c kinds = run.tells bits in
         subst (λ (x : Told). Tells x out₀ at (record { verdict = Verdict.Pass; at = p }) out)
         (sym (g.goes ∙ ap (joined Verdict.Pass g.lines) e))
-        (record { verdict-is = refl; wrote = like (sym (append-nil g.lines)) g.wrote })
+        (record { verdict_is = refl; wrote = like (sym (append-nil g.lines)) g.wrote })
     finished bits (Verdict.Refuse why) e =
         let g : Goes bits out p k t c kinds = run.tells bits in
         stopped (g.goes ∙ ap (joined Verdict.Pass g.lines) e) (like (sym (append-nil g.lines)) g.wrote)
@@ -160,7 +160,7 @@ module _ (o : Options) (s : Text) (plan : List PlanAt) (n : ℕ) (out₀ : Text)
           stopped
           (g.goes ∙ ap (joined Verdict.Pass g.lines) (turn bits
           ∙ ap (λ (v : Verdict). joined v (goes_by bits).lines (tell o (goes_by bits).after (rest bits (k + 1))))
-          (sym (u.steps bits).verdict-is ∙ e)))
+          (sym (u.steps bits).verdict_is ∙ e)))
           (chain g.wrote (u.steps bits).wrote)
 
       run-turn : q.verdict ≡ Verdict.Pass → Run next q.at (k + 1) q.state d held
@@ -176,7 +176,7 @@ module _ (o : Options) (s : Text) (plan : List PlanAt) (n : ℕ) (out₀ : Text)
               goes =
                   g.goes ∙ ap (joined Verdict.Pass g.lines) (turn bits
                   ∙ ap (λ (v : Verdict). joined v (goes_by bits).lines (tell o (goes_by bits).after (rest bits (k + 1))))
-                  (sym (u.steps bits).verdict-is ∙ e)
+                  (sym (u.steps bits).verdict_is ∙ e)
                   ∙ ap (λ (x : flow.State). joined Verdict.Pass (goes_by bits).lines (tell o x (rest bits (k + 1))))
                   (sym ((u.steps bits).goes_on e)))
                   ∙ ap (λ (x : Text). record { verdict = (left bits (k + 1) q.state d held).verdict; lines = x })

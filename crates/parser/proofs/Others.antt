@@ -50,21 +50,21 @@ module _ (o : Options) (s : Text) (t : State) (e : EmitAt) where
       → ((bits : Part → ℕ) → Put out at (block_text (block_of s (text "payload") o bits b)) p left)
       → Says out at (record { verdict = Verdict.Pass; at = p; state = quiet t }) left
   says-block h put = with-emit h (λ bits bs. record {
-    advances = record { verdict-is = refl; wrote = put bits; goes_on = λ v. refl };
+    advances = record { verdict_is = refl; wrote = put bits; goes_on = λ v. refl };
     stays = λ why v. absurd (let z : ◌≡◌ {A = ℕ} 0 1 = cc in omega arith);
   })
 
   pub says_none : e ≡ EmitAt.Silent → (out : Text) (at : ℕ) → length out < 2 ^ 63
       → Says out at (record { verdict = Verdict.Pass; at = at; state = quiet t }) out
   says_none h out at room = with-emit h (λ bits bs. record {
-    advances = record { verdict-is = refl; wrote = still out at room; goes_on = λ v. refl };
+    advances = record { verdict_is = refl; wrote = still out at room; goes_on = λ v. refl };
     stays = λ why v. absurd (let z : ◌≡◌ {A = ℕ} 0 1 = cc in omega arith);
   })
 
   pub says-refusal : {why : Refusal} → e ≡ EmitAt.Refuses why → (out : Text) (at : ℕ) → length out < 2 ^ 63
       → Says out at (record { verdict = Verdict.Refuse why; at = at; state = t }) out
   says-refusal h out at room = with-emit h (λ bits bs. record {
-    advances = record { verdict-is = refl; wrote = still out at room; goes_on = λ v. absurd (let z : ◌≡◌ {A = ℕ} 0 1 = cc in omega arith) };
+    advances = record { verdict_is = refl; wrote = still out at room; goes_on = λ v. absurd (let z : ◌≡◌ {A = ℕ} 0 1 = cc in omega arith) };
     stays = λ why v. refl;
   })
 
@@ -108,7 +108,7 @@ module _ (o : Options) (s : Text) (t : State) (len : ℕ) (must : Bool) (e : Emi
       → (out : Text) (at : ℕ) → length out < 2 ^ 63 → Stepped t a bs out at (record { verdict = Verdict.Refuse why; at = at; state = t }) out
   refused why bs x q out at room =
       subst (λ (a : Advance). Stepped t a bs out at (record { verdict = Verdict.Refuse why; at = at; state = t }) out) (sym q) (record {
-        advances = record { verdict-is = refl; wrote = still out at room; goes_on = λ w. absurd (let z : ◌≡◌ {A = ℕ} 0 1 = cc in omega arith) };
+        advances = record { verdict_is = refl; wrote = still out at room; goes_on = λ w. absurd (let z : ◌≡◌ {A = ℕ} 0 1 = cc in omega arith) };
         stays = λ because w. refl;
       })
 

@@ -128,7 +128,7 @@ module _ (o : Options) (s : Text) (plan : List PlanAt) (n : ℕ) where
             going = λ v.
                 let q : seen r.state (fields_in c kinds) ≡ calm (seen t (fields_in c kinds)) =
                 (d (λ id. 0) (fields_in c kinds) l).advances.goes_on v
-                ∙ other_after (seen t (fields_in c kinds)) must (said_in o s (λ id. 0) emit) (sym (d (λ id. 0) (fields_in c kinds) l).advances.verdict-is ∙ v) in
+                ∙ other_after (seen t (fields_in c kinds)) must (said_in o s (λ id. 0) emit) (sym (d (λ id. 0) (fields_in c kinds) l).advances.verdict_is ∙ v) in
                 record {
                   few = omega (arith, g.few);
                   numbers = omega (arith, g.numbers, ap (λ (x : flow.State). x.chunk_nr) q);
@@ -248,7 +248,7 @@ module _ (o : Options) (s : Text) (plan : List PlanAt) (n : ℕ) where
             (ap (λ (x : ℕ). x % 8) (let y : t.shift + width ≡ width = omega (arith, zero-shift) in y) ∙ alone-whole f)
             (subst (λ (u : flow.State). Advanced (close_advance o u later) [] out p r left) as-grown d.advances)))
             (λ v. closed-going _ refl (omega (arith, g.tested, len)) r c kinds len g.shifts-long g.widths-long g.kinds-long (d.advances.goes_on v)
-            (sym d.advances.verdict-is ∙ v))
+            (sym d.advances.verdict_is ∙ v))
 
         -- in a chunk with others
         module _ (f : yes ≡ false) {d : Chunk} (ed : d ≡ pushed c t.shift width) {u : State} (eu : u ≡ opened_state t width) where
@@ -301,7 +301,7 @@ module _ (o : Options) (s : Text) (plan : List PlanAt) (n : ℕ) where
               open-advance o (seen t (fields_in c kinds)) what width later (λ q. w (ap (λ (x : ℕ). x % 8) shift_is ∙ q)) in
               turned d held
               (record {
-                verdict-is = ap (λ (x : Advance). x.verdict) (sym q);
+                verdict_is = ap (λ (x : Advance). x.verdict) (sym q);
                 wrote = like (ap (λ (x : Advance). x.lines) (sym q)) (still out p l);
                 goes_on = λ v. seen_as ∙ ap (λ (x : Advance). x.after) (sym q);
               })
@@ -358,4 +358,4 @@ module _ (o : Options) (s : Text) (plan : List PlanAt) (n : ℕ) where
                 (λ v. closed-going (seen u (fields_in d held)) (ap (λ (y : State). y.nr) eu)
                 (omega (arith, g.tested, len_is, ap (λ (y : State). y.raws) eu, bits-length o.arrays s (text "payload") d held d.len)) r _ held
                 refl d-long d-wide held-long (x.advances.goes_on v)
-                (sym x.advances.verdict-is ∙ v))
+                (sym x.advances.verdict_is ∙ v))

@@ -49,5 +49,5 @@ TellsBy Verdict.Pass lines out at r left = Put out at lines r.at left
 TellsBy (Verdict.Refuse why) lines out at r left = (r.at ≡ at) × (left ≡ sets out at lines)
 
 pub record Tells (told : Told) (out : Text) (at : ℕ) (r : Lowered) (left : Text) : Type 0 where
-  pub verdict-is : r.verdict ≡ told.verdict
+  pub verdict_is : r.verdict ≡ told.verdict
   pub wrote : TellsBy told.verdict told.lines out at r left

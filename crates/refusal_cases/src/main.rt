@@ -7,9 +7,10 @@ ghost use Rattle.std.specs.Prelude.{◌<◌};
 
 use cases::Next;
 use definitions::Head;
-use libc::STDIN_FILENO;
 use record::Reading;
 use sizes::Sizing;
+use std::io;
+use std::io::{Read, Write};
 
 // ---- one record
 
@@ -135,7 +136,7 @@ fn tallied(t: Tally, answer: u64, judged: Judged) -> Tally {
 
 // Replays the stream to its end, or to where it is no stream of cases, which a line `broken=N` says, behind the Nth case. A proved loop has
 // to end, so its turns are counted down from a number that no run uses up.
-fn replay(window: &mut [u8]) -> Tally {
+fn replay<R: Read, W: Write>(from: &mut R, to: &mut W, window: &mut [u8]) -> io::Result<Tally> {
     let mut t = Tally {
         cases: 0,
         refused: 0,
@@ -147,7 +148,7 @@ fn replay(window: &mut [u8]) -> Tally {
     let mut turns = u64::MAX;
     while turns > 0 {
         turns -= 1;
-        match cases::next_case(STDIN_FILENO, window, at, end) {
+        match cases::next_case(from, window, at, end) {
             Next::Case {
                 answer,
                 record,
@@ -159,22 +160,27 @@ fn replay(window: &mut [u8]) -> Tally {
                 end = filled;
             }
             Next::End => {
-                return t;
+                return Ok(t);
             }
             Next::Broken => {
-                console::print_number(b"broken", t.cases);
-                return t;
+                console::print_number(to, b"broken", t.cases)?;
+                return Ok(t);
             }
         }
     }
-    t
+    Ok(t)
 }
 
-fn main() {
+// The program, at any input and output.
+fn run<R: Read, W: Write>(from: &mut R, to: &mut W) -> io::Result<()> {
     let mut window = [0u8; 131072];
-    let t = replay(&mut window);
-    console::print_number(b"cases", t.cases);
-    console::print_number(b"refused", t.refused);
-    console::print_number(b"wrong", t.wrong);
-    console::print_number(b"sizes", t.digest);
+    let t = replay(from, to, &mut window)?;
+    console::print_number(to, b"cases", t.cases)?;
+    console::print_number(to, b"refused", t.refused)?;
+    console::print_number(to, b"wrong", t.wrong)?;
+    console::print_number(to, b"sizes", t.digest)
+}
+
+fn main(rt: HostRuntime) {
+    let _ = run(&mut rt.stdin(), &mut rt.stdout());
 }

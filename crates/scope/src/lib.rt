@@ -4,7 +4,7 @@
 
 ghost use Rattle.std.specs.Prelude.{◌≡◌, false, [], ◌+◌, ◌-◌, ◌≤◌};
 ghost use Rattle.definitions.specs.Bytes.{any};
-ghost use Rattle.definitions.specs.Refusals.{too_many, duplicate_name, find as findDesc, is_enum_desc, lacks as lacksDesc, bad_name, bad_type, bad_names, unknown_name};
+ghost use Rattle.definitions.specs.Refusals.{too_many, duplicate_name, find as find_desc, is_enum_desc, lacks as lacks_desc, bad_name, bad_type, bad_names, unknown_name};
 ghost use Rattle.tables.specs.Tables.{field_here, fields_from, count_here, declaration_in, declarations_from};
 ghost use Rattle.ranges.specs.Ranges.{bare};
 ghost use Rattle.scope.specs.Scopes.{has_name, wants, bad_field_type};
@@ -83,7 +83,7 @@ fn plays(role: Role, desc: DeclDesc) -> bool
 
 // None of the first n declarations has the name, or the first that has it does not play the role.
 fn lacks(rec: &[u8], rows: &[u64], n: usize, role: Role, name: Part) -> bool
-    ensures { result ≡ lacksDesc (wants role) (findDesc rec.now (bare rows.now n) name) }
+    ensures { result ≡ lacks_desc (wants role) (find_desc rec.now (bare rows.now n) name) }
 {
     match tables::find(rec, rows, n, name) {
         Found::Nothing => true,

@@ -58,7 +58,7 @@ module _ (t : Tables) (o : Options) (n : ℕ) where
     pub writing-end : n ≤ i → Tells (from 0 n) first 0 (record { verdict = Verdict.Pass; at = at }) now
     unfolding tell_each
     writing-end h = subst (λ (d : Told). Tells d first 0 (record { verdict = Verdict.Pass; at = at }) now) (sym whole) (record {
-      verdict-is = refl;
+      verdict_is = refl;
       wrote = w.wrote;
     })
       where
@@ -110,12 +110,12 @@ module _ (t : Tables) (o : Options) (n : ℕ) where
           where
             by : (v : Verdict) → (here i).verdict ≡ v → Tells (from 0 n) first 0 (record { verdict = l.verdict; at = 0 }) next
             by Verdict.Pass g =
-                absurd (let z : true ≡ false = sym hx ∙ ex ∙ ap is_refused (tells.verdict-is ∙ g) in let k : ◌≡◌ {A = ℕ} 0 1 = cc in omega arith)
+                absurd (let z : true ≡ false = sym hx ∙ ex ∙ ap is_refused (tells.verdict_is ∙ g) in let k : ◌≡◌ {A = ℕ} 0 1 = cc in omega arith)
             by (Verdict.Refuse why) g =
                 subst (λ (d : Told). Tells d first 0 (record { verdict = l.verdict; at = 0 }) next)
                 (sym (split hb ∙ ap (λ (v : Verdict). joined Verdict.Pass w.done (joined v (here i).lines (from (i + 1) (n - (i + 1))))) g))
                 (record {
-                  verdict-is = tells.verdict-is ∙ g;
+                  verdict_is = tells.verdict_is ∙ g;
                   wrote = (
                     refl,
                     written_behind (here i).lines w.wrote (subst (λ (v : Verdict). TellsBy v (here i).lines now at l next) g tells.wrote).1,
@@ -130,7 +130,7 @@ module _ (t : Tables) (o : Options) (n : ℕ) where
 
             by : (v : Verdict) → (here i).verdict ≡ v → Writing first next l.at (i + 1)
             by (Verdict.Refuse why) g =
-                absurd (let z : false ≡ true = sym hx ∙ ex ∙ ap is_refused (tells.verdict-is ∙ g) in let k : ◌≡◌ {A = ℕ} 0 1 = cc in omega arith)
+                absurd (let z : false ≡ true = sym hx ∙ ex ∙ ap is_refused (tells.verdict_is ∙ g) in let k : ◌≡◌ {A = ℕ} 0 1 = cc in omega arith)
             by Verdict.Pass g = record {
               small = omega arith;
               near =

@@ -118,7 +118,7 @@ module _ (name : Text) (d : Told) {out mid left : Text} {at from : ℕ} {l : Low
       turned : (v : Verdict) (why : Refusal) → limited_by d.verdict (length d.lines) ≡ v → v ≡ Verdict.Refuse why
           → r ≡ record { verdict = Verdict.Refuse why; at = at } → Tells (section_told name d) out at r left
       turned v why g f q = record {
-        verdict-is = ap (λ (x : Lowered). x.verdict) q ∙ sym (g ∙ f);
+        verdict_is = ap (λ (x : Lowered). x.verdict) q ∙ sym (g ∙ f);
         wrote =
             subst (λ (x : Verdict). TellsBy x (target_line name ++ d.lines) out at r left) (sym (g ∙ f))
             (ap (λ (x : Lowered). x.at) q, all-written);
@@ -127,9 +127,9 @@ module _ (name : Text) (d : Told) {out mid left : Text} {at from : ℕ} {l : Low
       passes : d.verdict ≡ Verdict.Pass → (b : Bool) → ltb 8192 (length d.lines) ≡ b → Tells (section_told name d) out at r left
       passes g true k =
           turned (Verdict.Refuse Refusal.SectionTooLong) Refusal.SectionTooLong (by-test d.verdict (length d.lines) g k) refl
-          (e ∙ limited-test l from at (tells.verdict-is ∙ g) (same_test g w ∙ k))
+          (e ∙ limited-test l from at (tells.verdict_is ∙ g) (same_test g w ∙ k))
       passes g false k = record {
-        verdict-is = ap (λ (x : Lowered). x.verdict) same ∙ tells.verdict-is ∙ g ∙ sym none;
+        verdict_is = ap (λ (x : Lowered). x.verdict) same ∙ tells.verdict_is ∙ g ∙ sym none;
         wrote =
             subst (λ (x : Verdict). TellsBy x (target_line name ++ d.lines) out at r left) (sym none)
             (subst (λ (x : Lowered). Put out at (target_line name ++ d.lines) x.at left) (sym same) (chain line wrote));
@@ -139,7 +139,7 @@ module _ (name : Text) (d : Told) {out mid left : Text} {at from : ℕ} {l : Low
           none = by-test d.verdict (length d.lines) g k
 
           same : r ≡ l
-          same = e ∙ limited-test l from at (tells.verdict-is ∙ g) (same_test g w ∙ k)
+          same = e ∙ limited-test l from at (tells.verdict_is ∙ g) (same_test g w ∙ k)
 
           wrote : Put mid from d.lines l.at left
           wrote = subst (λ (v : Verdict). TellsBy v d.lines mid from l left) g tells.wrote
@@ -148,7 +148,7 @@ module _ (name : Text) (d : Told) {out mid left : Text} {at from : ℕ} {l : Low
       by Verdict.Pass g = passes g (ltb 8192 (length d.lines)) refl
       by (Verdict.Refuse why) g =
           turned (Verdict.Refuse why) why (by-refused d.verdict (length d.lines) g) refl
-          (e ∙ sym (limited-refused l from at (tells.verdict-is ∙ g)))
+          (e ∙ sym (limited-refused l from at (tells.verdict_is ∙ g)))
 
 -- ---- the section of a declaration of the tables
 

@@ -1,6 +1,6 @@
 -- `chunks::check_size` meets its contract, by the laws of proofs/Numbers.
 -- Assumes nothing.
-use Rattle.chunks.proofs.Numbers.{check-none, check-first}
+use Rattle.chunks.proofs.Numbers.{check-none, check_first}
 use borrow.Author.Rules.{rules}
 use Rattle.chunks.proofs.check_size.Goals as goal
 
@@ -8,4 +8,4 @@ pub returns-then-pending : goal.returns-then-pending
 returns-then-pending c = check-none _ _ _ _ (search rules) (search rules)
 
 pub returns : goal.returns
-returns c = search (check-first, rules)
+returns c = search (check_first, rules)

@@ -1,5 +1,6 @@
 -- `parser::lower_target` meets its contract, by the laws of proofs/Turns and proofs/Drives.
 -- Assumes nothing.
+use mathlib.Core.List.{[]}
 use native.Mathlib.Omega.{arith}
 use Rattle.parser.proofs.Turns.{emit-fits, shift_fits, alone-fits, turned-other, turned-alone, turned-open, closing, turned-closed}
 use Rattle.parser.proofs.Drives.{run-start, run-goes, run_on, run-ended, run_ends}

@@ -1,5 +1,6 @@
 -- `ranges::too_many` meets its contract, by the laws of Tests.
 -- Assumes nothing.
+use mathlib.Core.List.{[]}
 use Prim.Native.Nat.{◌-◌}
 use mathlib.Core.Path.{◌≡◌}
 use Rattle.definitions.specs.Bytes.{any}

@@ -1,5 +1,6 @@
 -- `scope::duplicate_name` meets its contract, by the laws of Duplicates.
 -- Assumes nothing.
+use mathlib.Core.List.{[]}
 use Prim.Native.Nat.{◌-◌}
 use mathlib.Core.Path.{◌≡◌}
 use Rattle.definitions.specs.Refusals.{duplicate_name}

@@ -1,5 +1,6 @@
 -- `slots::possibility` meets its contract, by the laws of Parting.
 -- Assumes nothing.
+use mathlib.Core.List.{[]}
 use Prim.Native.Nat.{◌-◌}
 use mathlib.Core.Path.{◌≡◌}
 use lib.ListN.{length, get_or, drop}
