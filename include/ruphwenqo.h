@@ -2,7 +2,7 @@
  * lower: from a frame declaration, written as a record, to the lines of its C++ parser.
  * lower_all: the same for every packet and struct of the record, in one call.
  *
- * Link the static library that `rt staticlib lowering` writes, target/staticlib/liblowering.a. It needs no library but C's, no heap
+ * Link the static library that `host/library` writes, target/staticlib/liblowering.a. It needs no library but C's, no heap
  * and no start-up code. The functions keep no state, so that several threads may call them at once.
  */
 #ifndef RUPHWENQO_H
