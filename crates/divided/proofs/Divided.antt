@@ -1,7 +1,8 @@
--- Document 02, Card 8: with `products=divide` no record needs a premise on products, and where no product passes 2^31 − 1 each frame fares as without.
--- Read this file first. The statements name `answer`, `lower_record`, `lower_fields` and `program` (definitions: Answer, FieldParser, Blocks), `run` and
--- `run_with` (meaning/specs: Machine, Outside), the record without its line `products` (alike/specs/Without), and what is in specs/ here: blocks with
--- one or the other word (Undivided, over alike/specs/Chosen), the checks of two listings (Checks), and runs that stand the same (Faring).
+-- What `products=divide` changes: each array of an accepted record is lowered with divisions, without them the other lines are the same, and where no
+-- product passes 2^31 − 1 each frame fares as without. Unlimited beside it drops the premise on products. The statements name `answer`, `lower_record`,
+-- `lower_fields` and `program` (definitions: Answer, FieldParser, Blocks), `run` (meaning/specs: Machine), the record without its line `products`
+-- (alike/specs/Without), and what is in specs/ here: blocks with one or the other word (Undivided, over alike/specs/Chosen), the checks of two listings
+-- (Checks), and runs that stand the same (Faring).
 -- Assumes nothing.
 use mathlib.Core.Bool.{false}
 use mathlib.Core.List.{List}
@@ -31,7 +32,7 @@ use Rattle.divided.proofs.Steps.{runs_same}
 
 module _ (s : Text) (bs : List Block) (accepts : answer s ≡ accepted bs) (h : Head) (ds : List Declaration) (read : read_record s ≡ record_is h ds)
     (divides : h.options.products ≡ Products.Divide) where
-  -- Each of its arrays is lowered so,
+  -- Each of its arrays is lowered so.
   pub blocks-divided : DividedBlocks bs
   blocks-divided = subst (λ (w : Products). HaveProducts w bs) divides (accepted-have s bs accepts h ds read)
 

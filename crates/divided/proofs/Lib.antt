@@ -1,4 +1,4 @@
--- Divided is to be read first; the others follow from the statements down. What each holds is said in its first lines.
+-- Divided and Unlimited are to be read first; the others follow from the statements down. What each holds is said in its first lines.
 pub mod Divided
 pub mod Unlimited
 pub mod Cases

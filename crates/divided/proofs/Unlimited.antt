@@ -1,4 +1,5 @@
--- What follows for an accepted record whose head says `divide`: no line tests a product, so the premise on products is dropped.
+-- What follows for an accepted record whose head says `divide`: no line tests a product, so the premise on products is dropped. The statements name
+-- `answer` and `program` (definitions: Answer, Blocks), `run` and `run_with` (meaning/specs: Machine, Outside), and what is in specs/ here.
 -- Assumes nothing.
 use mathlib.Core.List.{List}
 use mathlib.Core.Path.{◌≡◌, sym, ◌∙◌}
@@ -30,7 +31,7 @@ use Rattle.divided.proofs.Divided.{blocks-divided}
 
 module _ (s : Text) (bs : List Block) (accepts : answer s ≡ accepted bs) (h : Head) (ds : List Declaration) (read : read_record s ≡ record_is h ds)
     (divides : h.options.products ≡ Products.Divide) where
-  -- and no `<` in its lines has a product on its right: "each size check on A * B" is by a division.
+  -- No `<` in its lines has a product on its right: "each size check on A * B" is by a division.
   pub each-divided : NoProductTested (program bs)
   each-divided = program-tests bs (blocks-divided s bs accepts h ds read divides)
 

@@ -1,5 +1,5 @@
 -- One step of a reader that hands out no keyword: what follows a name or a keyword (`on_screened`, `on_free`, ..), as Steps of `names` has it for the
--- form; and that such steps give what is screened of the form's (`screened-name`, ..).
+-- form; and that such steps give what is screened of the form's.
 -- Assumes nothing.
 use Prim.Native.Nat.{ℕ}
 use mathlib.Core.Bool.{Bool, true, false, ◌||◌}

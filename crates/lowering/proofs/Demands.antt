@@ -1,4 +1,4 @@
--- The ties: what is proved of every record that an exported function accepts. Its contract gives the number r and the bytes `left`, which the buffer `out`
+-- The ties: what is proved of every record that `lower` or `lower_all` accepts. Its contract gives the number r and the bytes `left`, which the buffer `out`
 -- holds at exit (premises `number` and `buffer`, in the contract's own words); meaning/proofs/Demands has what holds of the lines, joined/specs/Sections
 -- what holds of the sections of a file.
 -- Assumes nothing.
@@ -86,7 +86,7 @@ shape-fitted most room t h = by (leb (length t) room)
     by true = Shape.short refl h
     by false = Shape.none refl
 
--- what both exported functions' numbers say
+-- what the number of either says
 record Parts (l : Lowered) (out : Text) (r : ℕ) (left : Text) : Type 0 where
   answer-is : r / 2 ^ 32 ≡ l.answered
   length-is : r % 2 ^ 32 ≡ length l.lines

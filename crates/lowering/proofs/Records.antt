@@ -85,7 +85,7 @@ module _ {s : Text} {t u : Tables} {x : Reading} (k : OfRecord s t x u) where
         → Gives (lower_for wanted s (length out)) out r left
     read-answers wanted {out} {left} {r} a = subst (λ (l : Lowered). Gives l out r left) (sized-for s h n u passes wanted (length out)) a
 
--- ---- the exported functions
+-- ---- `lower` and `lower_all`
 
 pub gives-target : (s : Text) {out left : Text} {r : ℕ} → Gives (lower_for Wanted.Target s (length out)) out r left
     → (r ≡ word (lower s (length out))) × (left ≡ buffer_after (lower s (length out)) out)

@@ -172,8 +172,8 @@ fn lower_in(rec: &[u8], out: &mut [u8], values: &mut [u64], wanted: Wanted) -> u
     }
 }
 
-// ---- the exported functions: each makes the table of values, in a size by the record's length, which spares short records the clearing of the largest.
-// A field has 16 bytes or more and 17 numbers
+// ---- the two functions that crates/lowering_c exports: each makes the table of values, in a size by the record's length, which spares short records the
+// clearing of the largest. A field has 16 bytes or more and 17 numbers
 
 // The number is the answer times 2^32 plus the length of the lines, which stand at the front of `out`; all behind them is as it was.
 pub fn lower(rec: &[u8], out: &mut [u8]) -> u64

@@ -1,4 +1,4 @@
--- `annotate::sum_fields` meets its contract.
+-- What the loop of `annotate::sum_fields` keeps from turn to turn, and what falls.
 -- Assumes nothing.
 use Prim.Native.Nat.{◌+◌, ◌*◌, ◌-◌, ◌≤◌}
 use mathlib.Core.Path.{◌≡◌}

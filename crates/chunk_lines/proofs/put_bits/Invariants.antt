@@ -1,4 +1,4 @@
--- `chunk_lines::put_bits` meets its contract, by the laws of proofs/Fields.
+-- What the loop of `chunk_lines::put_bits` keeps from turn to turn, and what falls.
 -- Assumes nothing.
 use mathlib.Core.Path.{◌≡◌}
 use Prim.Native.Nat.{◌≤◌, ◌-◌}

@@ -1,4 +1,4 @@
--- `conditions::conditions` meets its contract, by the laws of Gathers.
+-- What the loop of `conditions::conditions` keeps from turn to turn, and what falls.
 -- Assumes nothing.
 use Prim.Native.Nat.{◌*◌, ◌-◌}
 use Rattle.conditions.proofs.Gathers.{Left}

@@ -1,4 +1,4 @@
--- `conditions::is_cond_for` meets its contract, by the laws of Looks.
+-- What the loop of `conditions::is_cond_for` keeps from turn to turn, and what falls.
 -- Assumes nothing.
 use Prim.Native.Nat.{◌-◌, ◌≤◌}
 use mathlib.Core.Path.{◌≡◌}

@@ -1,4 +1,4 @@
--- `keywords::is_among` meets its contract, by the laws of Among.
+-- What the loop of `keywords::is_among` keeps from turn to turn, and what falls.
 -- Assumes nothing.
 use Rattle.keywords.proofs.Among.{Left}
 use Rattle.keywords.proofs.is_among.Given as goal

@@ -1,4 +1,4 @@
--- `names::key_at` meets its contract, by the laws of KeyBytes.
+-- What the loop of `names::key_at` keeps from turn to turn, and what falls.
 -- Assumes nothing.
 use Prim.Native.Nat.{◌+◌, ◌≤◌, ◌-◌}
 use mathlib.Core.Path.{◌≡◌}

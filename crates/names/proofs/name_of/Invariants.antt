@@ -1,4 +1,4 @@
--- `names::name_of` meets its contract, by the laws of Words.
+-- What the loop of `names::name_of` keeps from turn to turn, and what falls.
 -- Assumes nothing.
 use Prim.Native.Nat.{◌-◌}
 use lib.ListN.{drop}

@@ -1,4 +1,4 @@
--- `names::number_at` meets its contract, by the laws of Digits.
+-- What the loop of `names::number_at` keeps from turn to turn, and what falls.
 -- Assumes nothing.
 use Prim.Native.Nat.{◌<◌, ◌-◌, ◌^◌}
 use mathlib.Core.Path.{◌≡◌}

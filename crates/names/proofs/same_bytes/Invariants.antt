@@ -1,4 +1,4 @@
--- `names::same_bytes` meets its contract, by the laws of Parts.
+-- What the loop of `names::same_bytes` keeps from turn to turn, and what falls.
 -- Assumes nothing.
 use Rattle.definitions.specs.Bytes.{same}
 use lib.ListN.{length, drop}

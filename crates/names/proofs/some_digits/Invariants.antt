@@ -1,4 +1,4 @@
--- `names::some_digits` meets its contract, by the laws of Words.
+-- What the loop of `names::some_digits` keeps from turn to turn, and what falls.
 -- Assumes nothing.
 use Prim.Native.Nat.{◌-◌}
 use mathlib.Core.Path.{◌≡◌}

@@ -1,4 +1,4 @@
--- `parser::lower_target` meets its contract, by the laws of proofs/Turns and proofs/Drives.
+-- What the loop of `parser::lower_target` keeps from turn to turn, and what falls.
 -- Assumes nothing.
 use Prim.Native.Nat.{◌-◌}
 use Rattle.parser.proofs.Drives.{Ran}

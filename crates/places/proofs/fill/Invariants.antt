@@ -1,4 +1,4 @@
--- `places::fill` meets its contract, by the laws of Filling.
+-- What the loop of `places::fill` keeps from turn to turn, and what falls.
 -- Assumes nothing.
 use lib.ListN.{length}
 use Prim.Native.Nat.{◌-◌}

@@ -1,4 +1,4 @@
--- `places::fill_fields` meets its contract, by the laws of Filling.
+-- What the loop of `places::fill_fields` keeps from turn to turn, and what falls.
 -- Assumes nothing.
 use lib.ListN.{length}
 use Prim.Native.Nat.{◌-◌}

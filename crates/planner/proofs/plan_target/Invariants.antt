@@ -1,4 +1,4 @@
--- `planner::plan_target` meets its contract, by the laws of proofs/Turns.
+-- What the loop of `planner::plan_target` keeps from turn to turn, and what falls.
 -- Assumes nothing.
 use Rattle.planner.proofs.Turns.{Filled}
 use Rattle.planner.proofs.plan_target.Given as goal

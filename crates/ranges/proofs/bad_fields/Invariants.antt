@@ -1,4 +1,4 @@
--- `ranges::bad_fields` meets its contract, by the laws of Tests.
+-- What the loop of `ranges::bad_fields` keeps from turn to turn, and what falls.
 -- Assumes nothing.
 use Prim.Native.Nat.{◌+◌, ◌-◌}
 use mathlib.Core.Path.{◌≡◌}

@@ -1,4 +1,4 @@
--- `ranges::out_of_range` meets its contract, by the laws of Tests.
+-- What the loop of `ranges::out_of_range` keeps from turn to turn, and what falls.
 -- Assumes nothing.
 use Prim.Native.Nat.{◌-◌}
 use mathlib.Core.Path.{◌≡◌}

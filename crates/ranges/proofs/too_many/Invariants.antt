@@ -1,4 +1,4 @@
--- `ranges::too_many` meets its contract, by the laws of Tests.
+-- What the loop of `ranges::too_many` keeps from turn to turn, and what falls.
 -- Assumes nothing.
 use mathlib.Core.List.{[]}
 use Prim.Native.Nat.{◌-◌}

@@ -1,4 +1,4 @@
--- `references::any_reference` meets its contract.
+-- What the loop of `references::any_reference` keeps from turn to turn, and what falls.
 -- Assumes nothing.
 use Prim.Native.Nat.{◌+◌, ◌*◌, ◌-◌, ◌≤◌}
 use mathlib.Core.Path.{◌≡◌}

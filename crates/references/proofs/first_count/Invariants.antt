@@ -1,4 +1,4 @@
--- `references::first_count` meets its contract.
+-- What the loop of `references::first_count` keeps from turn to turn, and what falls.
 -- Assumes nothing.
 use Prim.Native.Nat.{◌+◌, ◌*◌, ◌-◌, ◌≤◌}
 use mathlib.Core.Path.{◌≡◌}

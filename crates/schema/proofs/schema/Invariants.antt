@@ -1,4 +1,4 @@
--- `schema::schema` meets its contract, by the laws of Passing.
+-- What the loop of `schema::schema` keeps from turn to turn, and what falls.
 -- Assumes nothing.
 use Prim.Native.Nat.{◌-◌}
 use Rattle.schema.proofs.Passing.{Going}

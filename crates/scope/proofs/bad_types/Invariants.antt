@@ -1,4 +1,4 @@
--- `scope::bad_types` meets its contract, by the laws of Unknown.
+-- What the loop of `scope::bad_types` keeps from turn to turn, and what falls.
 -- Assumes nothing.
 use Prim.Native.Nat.{◌+◌, ◌-◌}
 use mathlib.Core.Path.{◌≡◌}

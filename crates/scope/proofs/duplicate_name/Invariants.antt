@@ -1,4 +1,4 @@
--- `scope::duplicate_name` meets its contract, by the laws of Duplicates.
+-- What the loop of `scope::duplicate_name` keeps from turn to turn, and what falls.
 -- Assumes nothing.
 use mathlib.Core.List.{[]}
 use Prim.Native.Nat.{◌-◌}

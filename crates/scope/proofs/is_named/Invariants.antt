@@ -1,4 +1,4 @@
--- `scope::is_named` meets its contract, by the laws of Duplicates.
+-- What the loop of `scope::is_named` keeps from turn to turn, and what falls.
 -- Assumes nothing.
 use mathlib.Core.List.{[]}
 use Prim.Native.Nat.{◌-◌}

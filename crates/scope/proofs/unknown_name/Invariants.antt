@@ -1,4 +1,4 @@
--- `scope::unknown_name` meets its contract, by the laws of Tests and Unknown.
+-- What the loop of `scope::unknown_name` keeps from turn to turn, and what falls.
 -- Assumes nothing.
 use Prim.Native.Nat.{◌-◌}
 use mathlib.Core.Path.{◌≡◌}

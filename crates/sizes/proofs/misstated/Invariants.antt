@@ -1,4 +1,4 @@
--- `sizes::misstated` meets its contract, by the laws of Stated.
+-- What the loop of `sizes::misstated` keeps from turn to turn, and what falls.
 -- Assumes nothing.
 use Prim.Native.Nat.{◌-◌, ◌≤◌}
 use mathlib.Core.Path.{◌≡◌}

@@ -1,4 +1,4 @@
--- `sizes::ragged` meets its contract.
+-- What the loop of `sizes::ragged` keeps from turn to turn, and what falls.
 -- Assumes nothing.
 use Prim.Native.Nat.{◌-◌, ◌≤◌}
 use mathlib.Core.Path.{◌≡◌}

@@ -1,4 +1,4 @@
--- `sizes::target` meets its contract, by the laws of Targets.
+-- What the loop of `sizes::target` keeps from turn to turn, and what falls.
 -- Assumes nothing.
 use Prim.Native.Nat.{◌-◌}
 use Rattle.sizes.proofs.Targets.{Looking}

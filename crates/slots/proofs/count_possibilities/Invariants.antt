@@ -1,4 +1,4 @@
--- `slots::count_possibilities` meets its contract, by the laws of Parting.
+-- What the loop of `slots::count_possibilities` keeps from turn to turn, and what falls.
 -- Assumes nothing.
 use Prim.Native.Nat.{suc, ◌+◌, ◌-◌, ◌≤◌}
 use mathlib.Core.Path.{◌≡◌}

@@ -1,4 +1,4 @@
--- `slots::piece_end` meets its contract, by the laws of Parting.
+-- What the loop of `slots::piece_end` keeps from turn to turn, and what falls.
 -- Assumes nothing.
 use Prim.Native.Nat.{◌+◌, ◌-◌}
 use mathlib.Core.Path.{◌≡◌}

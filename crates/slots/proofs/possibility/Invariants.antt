@@ -1,4 +1,4 @@
--- `slots::possibility` meets its contract, by the laws of Parting.
+-- What the loop of `slots::possibility` keeps from turn to turn, and what falls.
 -- Assumes nothing.
 use mathlib.Core.List.{[]}
 use Prim.Native.Nat.{◌-◌}

@@ -1,4 +1,4 @@
--- `slots::put_slots` meets its contract, by the laws of Parting and Drawing.
+-- What the loop of `slots::put_slots` keeps from turn to turn, and what falls.
 -- Assumes nothing.
 use Prim.Native.Nat.{◌-◌, ◌≤◌}
 use mathlib.Core.Path.{◌≡◌}

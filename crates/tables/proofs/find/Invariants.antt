@@ -1,4 +1,4 @@
--- `tables::find` meets its contract, by the laws of Search.
+-- What the loop of `tables::find` keeps from turn to turn, and what falls.
 -- Assumes nothing.
 use Rattle.tables.specs.Tables.{which, decls_from}
 use mathlib.Core.Path.{◌≡◌}

@@ -1,4 +1,4 @@
--- `tables::put_words` meets its contract, by the laws of Writing.
+-- What the loop of `tables::put_words` keeps from turn to turn, and what falls.
 -- Assumes nothing.
 use Prim.Native.Nat.{◌-◌}
 use lib.ListN.{length}

@@ -1,4 +1,4 @@
--- `targets::put_sections` meets its contract, by the laws of Each.
+-- What the loop of `targets::put_sections` keeps from turn to turn, and what falls.
 -- Assumes nothing.
 use Prim.Native.Nat.{◌-◌}
 use Rattle.tables.specs.Tables.{tables_of}

@@ -1,4 +1,5 @@
--- `trailing::get_trailing_size` meets its contract. The invariant: what is left adds up to the answer, and stays below 2 ^ 31 for each field.
+-- What the loop of `trailing::get_trailing_size` keeps from turn to turn, and what falls. What is left adds up to the answer,
+-- and stays below 2 ^ 31 for each field.
 -- Assumes nothing.
 use Prim.Native.Nat.{◌+◌, ◌*◌, ◌-◌, ◌≤◌}
 use mathlib.Core.Path.{◌≡◌}

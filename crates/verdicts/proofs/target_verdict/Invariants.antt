@@ -1,4 +1,4 @@
--- `verdicts::target_verdict` meets its contract, by the laws of proofs/Verdicts.
+-- What the loop of `verdicts::target_verdict` keeps from turn to turn, and what falls.
 -- Assumes nothing.
 use Prim.Native.Nat.{◌-◌}
 use Rattle.verdicts.proofs.Verdicts.{Counting}
