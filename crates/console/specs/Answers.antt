@@ -1,4 +1,4 @@
--- What the programs `lower` and `lower_all` print (document 01, 'Declarations on each side'). Assumes nothing.
+-- What the programs `lower` and `lower_all` print (README.md, 'Two commands' and 'A whole file at once'). Assumes nothing.
 use Rattle.std.specs.Prelude.{ℕ, List, ◌==◌, codes, Option, Result, if◌then◌else◌}
 use Rattle.definitions.specs.Bytes.{Text}
 use Rattle.definitions.specs.Answer.{Lowered}
