@@ -39,15 +39,18 @@ unfolding lowered_all
 lowered_all_short room (refused_all why) = omega arith
 lowered_all_short room (accepted_all xs) = fitted_short room _
 
--- what a call of `lower` or `lower_all` in a buffer of `room` bytes gives
+-- what a call that gives `a` leaves to be printed
+printed_given : (a : Lowered) (out left : Text) (w : ℕ) → length a.lines < 2 ^ 32 → (w ≡ word a) × (left ≡ buffer_after a out)
+    → printed w left ≡ answer_text a
+printed_given a out left w h (e, f) = (λ i. printed (e i) (f i)) ∙ printed_word a out h
+
+-- so a call of `lower` or `lower_all` in a buffer of `room` bytes
 module _ (rec out left : Text) {room : ℕ} (w : ℕ) (h : room < 2 ^ 32) where
   pub printed_lower : (w ≡ word (lower rec room)) × (left ≡ buffer_after (lower rec room) out) → printed w left ≡ answer_text (lower rec room)
-  printed_lower (e, f) =
-      (λ i. printed (e i) (f i)) ∙ printed_word (lower rec room) out (omega (arith, h, lowered_short room (answer rec)))
+  printed_lower = printed_given (lower rec room) out left w (omega (arith, h, lowered_short room (answer rec)))
 
   pub printed_lower_all : (w ≡ word (lower_all rec room)) × (left ≡ buffer_after (lower_all rec room) out) → printed w left ≡ answer_text (lower_all rec room)
-  printed_lower_all (e, f) =
-      (λ i. printed (e i) (f i)) ∙ printed_word (lower_all rec room) out (omega (arith, h, lowered_all_short room (answer_all rec)))
+  printed_lower_all = printed_given (lower_all rec room) out left w (omega (arith, h, lowered_all_short room (answer_all rec)))
 
 -- ---- of a record that is too long, the bytes do not matter
 

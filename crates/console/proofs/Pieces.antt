@@ -1,5 +1,5 @@
 -- What is read and written in pieces, one after the other. Assumes nothing.
-use Rattle.std.proofs.Common.{◌≡◌, ℕ, ◌+◌, ◌-◌, ◌≤◌, min, List, ◌++◌, length, take, drop, Option, Result, Ok, Err, arith, sym, ap, ◌∙◌, subst}
+use Rattle.std.proofs.Common.{◌≡◌, ℕ, ◌+◌, ◌-◌, ◌/◌, ◌%◌, ◌^◌, ◌≤◌, min, codes, List, ◌++◌, length, take, drop, Option, Result, Ok, Err, arith, sym, ap, ◌∙◌, subst}
 use Rattle.std.proofs.Math.Seq.{take-append-add, take-add}
 use Rattle.std.proofs.lemmas.List.{take-append-le, drop-append-le, length-take-le, take_min, take_rest}
 use Rattle.std.proofs.lemmas.Bool.{false≢true}
@@ -8,7 +8,7 @@ use Rattle.std.specs.Io.KnownBytes.{Consumes, Appends}
 use Rattle.std.specs.Result.{IsErr}
 use borrow.Rule.Slice.PartMut.{put_mid, post_of}
 use Rattle.console.specs.Reads.{Skips}
-use Rattle.console.specs.Writes.{Writes}
+use Rattle.console.specs.Writes.{Writes, number_line, printed}
 
 -- ---- reading
 
@@ -66,3 +66,14 @@ writes_err (Err x) a b bs e p = p
 pub writes_behind : {A E : Type 0} (r : Result A E) (a b c : Option (List ℕ)) (xs ys : List ℕ) → Appends a b xs → Writes r b c ys → Writes r a c (xs ++ ys)
 writes_behind (Ok x) a b c xs ys p q = Appends-trans a b c xs ys p q
 writes_behind (Err e) a b c xs ys p q = fails_behind a b c xs ys p q
+
+-- what is printed of a number and a buffer: the lines where its upper part is 0, and else the refusal
+module _ {A E : Type 0} (r : Result A E) (a b : Option (List ℕ)) (word : ℕ) (out : List ℕ) where
+  pub prints_lines : {k n : ℕ} {bs : List ℕ} → k ≡ word / 2 ^ 32 → k ≡ 0 → n ≡ word % 2 ^ 32 → bs ≡ take n out → Writes r a b bs
+      → Writes r a b (printed word out)
+  unfolding printed
+  prints_lines e z f h p = grind arith
+
+  pub prints_refusal : {k : ℕ} → k ≡ word / 2 ^ 32 → (k ≡ 0 → ⊥) → Writes r a b (number_line (codes "refused") k) → Writes r a b (printed word out)
+  unfolding printed
+  prints_refusal e n p = grind arith

@@ -1,11 +1,11 @@
-use Rattle.std.proofs.Common.{arith}
-use Rattle.console.specs.Writes.{printed}
+-- `console::print_answer` meets its contract, by the laws of Pieces.
+-- Assumes nothing.
+use Rattle.std.proofs.Common.{rules}
+use Rattle.console.proofs.Pieces.{prints_lines, prints_refusal}
 use Rattle.console.proofs.print_answer.Goals as goal
 
 pub returns-then-refusal-eq0 : goal.returns-then-refusal-eq0
-unfolding printed
-returns-then-refusal-eq0 g c = grind arith
+returns-then-refusal-eq0 g c = search (prints_lines, rules)
 
 pub returns-else-refusal-eq0 : goal.returns-else-refusal-eq0
-unfolding printed
-returns-else-refusal-eq0 g c = grind arith
+returns-else-refusal-eq0 g c = search (prints_refusal, rules)
