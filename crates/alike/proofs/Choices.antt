@@ -1,6 +1,7 @@
 -- The head's optional lines, each a choice of two words, read one behind the other in two texts of which the second may leave out lines. Where declarations
 -- follow in the first, both choose the same, and a line that is left out is read as its first word (`choices-as`).
 -- Assumes nothing.
+use Rattle.std.specs.Prelude.{Option, Some, None}
 use mathlib.Core.Bool.{Bool, true, false, ◌&&◌}
 use mathlib.Core.List.{List, [], ◌∷◌, ◌++◌}
 use mathlib.Core.Logic.{◌⊎◌, inl, inr}
@@ -10,7 +11,6 @@ use native.Mathlib.Omega.{arith}
 use lib.ListN.{length, drop}
 use Rattle.definitions.specs.Bytes.{Text, text, pick}
 use Rattle.definitions.specs.Record.{key_at, is_found, on_found}
-use Rattle.definitions.specs.declared.Found.{Found}
 use Rattle.lengths.proofs.Booleans.{impossible}
 use Rattle.alike.specs.Without.{begins}
 use Rattle.alike.proofs.Rests.{LeftOut, out_key, is_out, start, inside, away, Rests, same, cut, same_line}
@@ -38,7 +38,7 @@ Declares u p = is_found (key_at u p (text "decl=")) ≡ true
 
 -- ---- lines that are absent
 
-not-begun : (u : Text) (p : ℕ) (key : Text) → key_at u p key ≡ Found.Nothing → begins key (drop p u) ≡ false
+not-begun : (u : Text) (p : ℕ) (key : Text) → key_at u p key ≡ None → begins key (drop p u) ≡ false
 not-begun u p key e = sym (key-begins u p key) ∙ ap is_found e
 
 absent : (o : Choice) (u : Text) (p : ℕ) → begins o.key (drop p u) ≡ false → chosen_at o u p ≡ (false, p)
@@ -144,14 +144,14 @@ module _ (out : LeftOut) where
         by (key_at s p (o.key ++ o.first)) (key_left out s (drop q t) true (o.key ++ o.first) p f.first r) (key_at s p (o.key ++ o.second))
         (key_left out s (drop q t) true (o.key ++ o.second) p f.second r)
       where
-        chosen : Found → Found → Bool × ℕ
+        chosen : Option ℕ → Option ℕ → Bool × ℕ
         chosen a b = on_found a (on_found b (false, p) λ i. (true, i)) λ i. (false, i)
 
-        by : (a : Found) → FoundOn (From out s (drop q t) start) a → (b : Found) → FoundOn (From out s (drop q t) start) b
+        by : (a : Option ℕ) → FoundOn (From out s (drop q t) start) a → (b : Option ℕ) → FoundOn (From out s (drop q t) start) b
             → Beyond out s t n (chosen a b).1 q
-        by (Found.At i) u b v = record { rests = u; less = k.less }
-        by Found.Nothing u (Found.At i) v = record { rests = v; less = k.less }
-        by Found.Nothing u Found.Nothing v = k
+        by (Some i) u b v = record { rests = u; less = k.less }
+        by None u (Some i) v = record { rests = v; less = k.less }
+        by None u None v = k
 
     pub choices-as : (os : List Choice) → formed os ≡ true → Told os → (p q : ℕ) → Beyond out s t n p q → Declares s (behind_all os s p) → Agree os p q
     choices-as [] f a p q k h = k

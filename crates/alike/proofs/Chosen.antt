@@ -2,6 +2,8 @@
 -- same blocks with those words (`fields-by`; of a whole record `record-by`). Blocks that have those words already stay (`blocks-same`), and what is given
 -- has them (`blocks-have`).
 -- Assumes nothing.
+use Rattle.std.specs.Prelude.{Option, Some, None, Ok, Err}
+use Rattle.definitions.specs.Refusals.{Verdict, verdict, no_target, is_target}
 use mathlib.Core.Bool.{Bool, true, false}
 use mathlib.Core.List.{List, [], ◌∷◌, ◌++◌}
 use mathlib.Core.Path.{◌≡◌, refl, sym, ap}
@@ -10,24 +12,20 @@ use lib.Dec.{ltb, eqb}
 use Rattle.definitions.specs.Bytes.{Text, pick}
 use Rattle.definitions.specs.Record.{Declaration}
 use Rattle.definitions.specs.Sizes.{Schema, Annotated, enum_of, has_payload_size, static_width}
-use Rattle.definitions.specs.Refusals.{verdict, no_target, is_target}
 use Rattle.definitions.specs.Blocks.{Bit, Chunk, Array, Block}
 use Rattle.definitions.specs.FieldParser.{Setting, FieldParser, Step, go, stop, and_then, new, flushed, check_code, is_cond_for, kind_of, bit_of, open_chunk, close_chunk, parse_bit_field, Emit, appends, silent, refuses, on_boundary, on_trailing, get_trailing_size, typedef_by_size, parse_typedef_field, optional_typedef, parse_optional_field, payload_by_size, parse_payload_field_lite, elem_of, type_name, array_of, with_padding, parse_array_field, parse_other, is_bit, parse_unchecked, emitted, parse, parse_all, done, Outcome, refused, code_of, lower_fields}
 use Rattle.definitions.specs.Answer.{setting_of, lower_target, lower_in, lower_record}
 use Rattle.definitions.specs.declared.Raw.{Raw}
 use Rattle.definitions.specs.declared.Products.{Products}
 use Rattle.definitions.specs.declared.Options.{Options}
-use Rattle.definitions.specs.declared.EnumOf.{EnumOf}
+use Rattle.definitions.specs.declared.EnumKind.{EnumKind}
 use Rattle.definitions.specs.declared.Part.{Part}
-use Rattle.definitions.specs.declared.MaybePart.{MaybePart}
-use Rattle.definitions.specs.declared.MaybeNumber.{MaybeNumber}
 use Rattle.definitions.specs.declared.Modifier.{Modifier}
 use Rattle.definitions.specs.declared.FieldDesc.{FieldDesc}
-use Rattle.definitions.specs.declared.Cond.{Cond}
+use Rattle.definitions.specs.declared.Condition.{Condition}
 use Rattle.definitions.specs.declared.Size.{Size}
 use Rattle.definitions.specs.declared.Head.{Head}
 use Rattle.definitions.specs.declared.Refusal.{Refusal}
-use Rattle.definitions.specs.declared.Verdict.{Verdict}
 use Rattle.alike.specs.Chosen.{options_by, head_by, setting_by, array_by, block_by, blocks_by, outcome_by, BlockHas, BlocksHave}
 
 module _ (raw_as : Raw → Raw) (products_as : Products → Products) where
@@ -68,9 +66,9 @@ module _ (raw_as : Raw → Raw) (products_as : Products → Products) where
       by true = h
       by false = refl
 
-  on-trailing : (m : MaybeNumber) (f g : ℕ → Emit) → ((n : ℕ) → f n ≡ emit_by (g n)) → on_trailing m f ≡ emit_by (on_trailing m g)
-  on-trailing MaybeNumber.None f g h = refl
-  on-trailing (MaybeNumber.Some n) f g h = h n
+  on-trailing : (m : Option ℕ) (f g : ℕ → Emit) → ((n : ℕ) → f n ≡ emit_by (g n)) → on_trailing m f ≡ emit_by (on_trailing m g)
+  on-trailing None f g h = refl
+  on-trailing (Some n) f g h = h n
 
   picked : (b : Bool) (x y : Block) → block_by raw_as products_as x ≡ x → block_by raw_as products_as y ≡ y
       → appends (pick b x y) ≡ emit_by (appends (pick b x y))
@@ -88,10 +86,10 @@ module _ (raw_as : Raw → Raw) (products_as : Products → Products) where
     typedef-by id type later Size.Dynamic = refl
     typedef-by id type later Size.Unknown = on-trailing (get_trailing_size c.options.trailing later) _ _ (λ n. picked (ltb 0 n) _ _ refl refl)
 
-    optional-enum : (cond : Part) (v : ℕ) (id type : Part) (e : EnumOf)
+    optional-enum : (cond : Part) (v : ℕ) (id type : Part) (e : Option EnumKind)
         → appends (optional_typedef d cond v id type e) ≡ emit_by (appends (optional_typedef c cond v id type e))
-    optional-enum cond v id type (EnumOf.Enum w is_open is_complete) = picked is_open _ _ refl refl
-    optional-enum cond v id type EnumOf.None = refl
+    optional-enum cond v id type (Some kind) = picked kind.is_open _ _ refl refl
+    optional-enum cond v id type None = refl
 
     optional-by : (cond : Part) (v : ℕ) (f : FieldDesc) → parse_optional_field d cond v f ≡ emit_by (parse_optional_field c cond v f)
     unfolding parse_optional_field
@@ -119,21 +117,21 @@ module _ (raw_as : Raw → Raw) (products_as : Products → Products) where
     unfolding parse_payload_field_lite
     payload-by shift m later = on-boundary shift _ _ (sized-by m later (has_payload_size c.source c.fields))
 
-    elem-by : (width : MaybeNumber) (type : MaybePart) → elem_of d width type ≡ elem_of c width type
-    elem-by (MaybeNumber.Some w) type = refl
-    elem-by MaybeNumber.None (MaybePart.Some type) = refl
-    elem-by MaybeNumber.None MaybePart.None = refl
+    elem-by : (width : Option ℕ) (type : Option Part) → elem_of d width type ≡ elem_of c width type
+    elem-by (Some w) type = refl
+    elem-by None (Some type) = refl
+    elem-by None None = refl
 
-    type-by : (type : MaybePart) → type_name d type ≡ type_name c type
-    type-by MaybePart.None = refl
-    type-by (MaybePart.Some type) = refl
+    type-by : (type : Option Part) → type_name d type ≡ type_name c type
+    type-by None = refl
+    type-by (Some type) = refl
 
-    padding-by : (p : MaybeNumber) (m : Modifier) (w : ℕ) (a b : Array) → a ≡ array_by products_as b
+    padding-by : (p : Option ℕ) (m : Modifier) (w : ℕ) (a b : Array) → a ≡ array_by products_as b
         → appends (with_padding p m w a) ≡ emit_by (appends (with_padding p m w b))
-    padding-by MaybeNumber.None m w a b e = ap (λ (x : Array). appends (Block.array m w x)) e
-    padding-by (MaybeNumber.Some n) m w a b e = ap (λ (x : Array). appends (Block.padded_array (n / 8) m w x)) e
+    padding-by None m w a b e = ap (λ (x : Array). appends (Block.array m w x)) e
+    padding-by (Some n) m w a b e = ap (λ (x : Array). appends (Block.padded_array (n / 8) m w x)) e
 
-    array-by : (id : Part) (width : MaybeNumber) (type : MaybePart) (size : MaybeNumber)
+    array-by : (id : Part) (width : Option ℕ) (type : Option Part) (size : Option ℕ)
         → array_of d id width type size ≡ array_by products_as (array_of c id width type size)
     array-by id width type size = cc (elem-by width type, type-by type)
 
@@ -160,15 +158,15 @@ module _ (raw_as : Raw → Raw) (products_as : Products → Products) where
     unfolding parse_unchecked
     unchecked-by shift a later = by a.field.cond
       where
-        of : Setting → Cond → Emit
+        of : Setting → Option Condition → Emit
         of s k = elim k [
-          | Cond.None ↦ parse_other s shift a later a.field.desc
-          | Cond.Some id value ↦ parse_optional_field s id value a.field.desc
+          | None ↦ parse_other s shift a later a.field.desc
+          | Some cond ↦ parse_optional_field s cond.id cond.value a.field.desc
         ]
 
-        by : (k : Cond) → of d k ≡ emit_by (of c k)
-        by Cond.None = other-by shift a later a.field.desc
-        by (Cond.Some id value) = optional-by id value a.field.desc
+        by : (k : Option Condition) → of d k ≡ emit_by (of c k)
+        by None = other-by shift a later a.field.desc
+        by (Some cond) = optional-by cond.id cond.value a.field.desc
 
     emitted-by : (p : FieldParser) (e : Emit) → emitted (parser_by p) (emit_by e) ≡ step_by (emitted p e)
     emitted-by p (appends b) = rw (blocks-append p.code (b ∷ []))
@@ -284,11 +282,11 @@ module _ (raw_as : Raw → Raw) (products_as : Products → Products) where
   record-by s h ds schema = by (verdict s h ds schema)
     where
       at : Head → Verdict → Outcome
-      at k v = elim v [ Verdict.Pass ↦ lower_in s k schema | Verdict.Refuse why ↦ refused why ]
+      at k v = elim v [ (Ok tt) ↦ lower_in s k schema | Err why ↦ refused why ]
 
       by : (v : Verdict) → at (head_by raw_as products_as h) v ≡ outcome_by raw_as products_as (at h v)
-      by Verdict.Pass = lower_in_lem s h schema
-      by (Verdict.Refuse why) = refl
+      by (Ok tt) = lower_in_lem s h schema
+      by (Err why) = refl
 
   -- ---- blocks that have those words already
 

@@ -1,5 +1,7 @@
 -- Declarations that are read at one of two places whose rests say the same are read at the other (`decl-as`, `declarations-as`).
 -- Assumes nothing.
+use Rattle.std.specs.Prelude.{Option, Some, None}
+use Rattle.definitions.specs.Record.{Read, key_at, is_found, on_found, on_read, on_fields, name_line, parented_at, packet_at, struct_at, enum_at, checksum_decl_at, custom_at, decl_at, field_at, Declaration, Fields, fields_are, no_fields, Declarations, declarations_are, no_declarations, with_field, fields_at, fields_behind, with_declaration, declarations_at}
 use mathlib.Core.Bool.{Bool, true, false}
 use mathlib.Core.List.{List, [], ◌∷◌, ◌++◌}
 use mathlib.Core.Path.{◌≡◌, refl, sym, ap, ◌∙◌, subst}
@@ -10,15 +12,10 @@ use lib.Dec.{ltb}
 use lib.ListN.{length, drop, length-drop, drop_of_length-le}
 use borrow.Author.Tests.{ltb-true, ltb-false, lt-ltb, le-ltb}
 use Rattle.definitions.specs.Bytes.{Text, text, pick}
-use Rattle.definitions.specs.Record.{key_at, is_found, on_found, on_name, on_field, on_decl, on_fields, name_line, parented_at, packet_at, struct_at, enum_at, checksum_decl_at, custom_at, decl_at, field_at, Declaration, Fields, fields_are, no_fields, Declarations, declarations_are, no_declarations, with_field, fields_at, fields_behind, with_declaration, declarations_at}
 use Rattle.definitions.specs.declared.Part.{Part}
-use Rattle.definitions.specs.declared.MaybePart.{MaybePart}
-use Rattle.definitions.specs.declared.MaybeSize.{MaybeSize}
 use Rattle.definitions.specs.declared.Field.{Field}
 use Rattle.definitions.specs.declared.DeclDesc.{DeclDesc}
 use Rattle.definitions.specs.declared.Decl.{Decl}
-use Rattle.definitions.specs.declared.Found.{Found}
-use Rattle.definitions.specs.declared.DeclRead.{DeclRead}
 use Rattle.lengths.proofs.Booleans.{impossible}
 use Rattle.alike.proofs.Same.{SamePart, SameMaybe, SameFields, SameDeclDesc, SameDecl, SameDeclarations, Stating}
 use Rattle.alike.proofs.Rests.{LeftOut, is_out, start, inside, Rests, same, same_line, nothing-out, shorter, left-too}
@@ -27,28 +24,28 @@ use Rattle.alike.proofs.Lines.{keeps, in-none, Beyond, then-line, then-number, t
 use Rattle.alike.proofs.Fields.{ReadFields, fields-as}
 
 module _ (out : LeftOut) (s t : Text) (n : ℕ) where
-  abbrev pub Declared : Decl → ℕ → DeclRead → Type 0
-  Declared d p DeclRead.Wrong = ⊥
-  Declared d p (DeclRead.Is e q) = SameDecl s t d e × (e.bits ≡ pick (keeps out) d.bits MaybeSize.None) × Beyond out s t n p q
+  abbrev pub Declared : Decl → ℕ → Read Decl → Type 0
+  Declared d p None = ⊥
+  Declared d p (Some (e, q)) = SameDecl s t d e × (e.bits ≡ pick (keeps out) d.bits None) × Beyond out s t n p q
 
   -- nothing is asked where a line that is left out follows: an optional line that stands behind it is read in the second text alone
-  abbrev pub DeclAs : DeclRead → DeclRead → Type 0
-  DeclAs DeclRead.Wrong r = Unit {0}
-  DeclAs (DeclRead.Is d p) r = is_out out (drop p s) ≡ false → Declared d p r
+  abbrev pub DeclAs : Read Decl → Read Decl → Type 0
+  DeclAs None r = Unit {0}
+  DeclAs (Some (d, p)) r = is_out out (drop p s) ≡ false → Declared d p r
 
   -- ---- the kinds of a declaration; `at` and `to` are the declaration's places, `p` and `q` those behind its `decl` line
 
   module _ (at to p q : ℕ) (k : Beyond out s t n p q) where
-    then-named : (f g : Part → ℕ → DeclRead) → ((a b : Part) (i j : ℕ) → SamePart s t a b → Beyond out s t n i j → DeclAs (f a i) (g b j))
-        → DeclAs (on_name (name_line s p (text "name=")) DeclRead.Wrong f) (on_name (name_line t q (text "name=")) DeclRead.Wrong g)
-    then-named f g h = then-name out s t n DeclAs DeclRead.Wrong (λ x. tt) p q k (text "name=") refl f g h
+    then-named : (f g : Part → ℕ → Read Decl) → ((a b : Part) (i j : ℕ) → SamePart s t a b → Beyond out s t n i j → DeclAs (f a i) (g b j))
+        → DeclAs (on_read (name_line s p (text "name=")) None f) (on_read (name_line t q (text "name=")) None g)
+    then-named f g h = then-name out s t n DeclAs None (λ x. tt) p q k (text "name=") refl f g h
 
-    parented : (desc : MaybePart → DeclDesc) → ((a b : MaybePart) → SameMaybe s t a b → SameDeclDesc s t (desc a) (desc b))
+    parented : (desc : Option Part → DeclDesc) → ((a b : Option Part) → SameMaybe s t a b → SameDeclDesc s t (desc a) (desc b))
         → DeclAs (parented_at desc s at p) (parented_at desc t to q)
     parented desc h =
         then-named _ _ λ a b p₁ q₁ e k₁.
-        then-maybe-name out s t n DeclAs DeclRead.Wrong (λ x. tt) p₁ q₁ k₁ (text "parent=") refl _ _ λ c d p₂ q₂ o k₂.
-        then-bits out s t n DeclAs DeclRead.Wrong (λ x. tt) p₂ q₂ k₂ _ _ (λ x z v. impossible (cc))
+        then-maybe-name out s t n DeclAs None (λ x. tt) p₁ q₁ k₁ (text "parent=") refl _ _ λ c d p₂ q₂ o k₂.
+        then-bits out s t n DeclAs None (λ x. tt) p₂ q₂ k₂ _ _ (λ x z v. impossible (cc))
         λ x y i j z u v. (record { id = e; desc = h c d o }, z, u)
 
     packet-as : DeclAs (packet_at s at p) (packet_at t to q)
@@ -63,23 +60,23 @@ module _ (out : LeftOut) (s t : Text) (n : ℕ) where
     unfolding enum_at
     enum-as =
         then-named _ _ λ a b p₁ q₁ e k₁.
-        then-number out s t n DeclAs DeclRead.Wrong (λ x. tt) p₁ q₁ k₁ (text "width=") refl _ _ λ width p₂ q₂ k₂.
-        then-bit out s t n DeclAs DeclRead.Wrong (λ x. tt) p₂ q₂ k₂ (text "open=") refl _ _ λ is_open p₃ q₃ k₃.
-        then-bit out s t n DeclAs DeclRead.Wrong (λ x. tt) p₃ q₃ k₃ (text "complete=") refl _ _ λ is_complete i j u v.
+        then-number out s t n DeclAs None (λ x. tt) p₁ q₁ k₁ (text "width=") refl _ _ λ width p₂ q₂ k₂.
+        then-bit out s t n DeclAs None (λ x. tt) p₂ q₂ k₂ (text "open=") refl _ _ λ is_open p₃ q₃ k₃.
+        then-bit out s t n DeclAs None (λ x. tt) p₃ q₃ k₃ (text "complete=") refl _ _ λ is_complete i j u v.
         (record { id = e; desc = SameDeclDesc.enum }, in-none out, u)
 
     checksum-as : DeclAs (checksum_decl_at s at p) (checksum_decl_at t to q)
     unfolding checksum_decl_at
     checksum-as =
         then-named _ _ λ a b p₁ q₁ e k₁.
-        then-number out s t n DeclAs DeclRead.Wrong (λ x. tt) p₁ q₁ k₁ (text "width=") refl _ _ λ width i j u v.
+        then-number out s t n DeclAs None (λ x. tt) p₁ q₁ k₁ (text "width=") refl _ _ λ width i j u v.
         (record { id = e; desc = SameDeclDesc.checksum }, in-none out, u)
 
     custom-as : DeclAs (custom_at s at p) (custom_at t to q)
     unfolding custom_at
     custom-as =
         then-named _ _ λ a b p₁ q₁ e k₁.
-        then-maybe-number out s t n DeclAs DeclRead.Wrong (λ x. tt) p₁ q₁ k₁ (text "width=") refl _ _ λ width i j u v.
+        then-maybe-number out s t n DeclAs None (λ x. tt) p₁ q₁ k₁ (text "width=") refl _ _ λ width i j u v.
         (record { id = e; desc = SameDeclDesc.custom }, in-none out, u)
 
   module _ (p q : ℕ) (r : Rests out inside (drop p s) (drop q t)) (l : length (drop q t) ≤ n) where
@@ -90,7 +87,7 @@ module _ (out : LeftOut) (s t : Text) (n : ℕ) where
         (then-line out s t n DeclAs p q r l (text "decl=struct\n") refl _ _
         (then-line out s t n DeclAs p q r l (text "decl=enum\n") refl _ _
         (then-line out s t n DeclAs p q r l (text "decl=checksum\n") refl _ _
-        (then-line out s t n DeclAs p q r l (text "decl=custom\n") refl DeclRead.Wrong DeclRead.Wrong tt
+        (then-line out s t n DeclAs p q r l (text "decl=custom\n") refl None None tt
         (λ i. custom_at s p i) (λ i. custom_at t q i) (custom-as p q))
         (λ i. checksum_decl_at s p i) (λ i. checksum_decl_at t q i) (checksum-as p q))
         (λ i. enum_at s p i) (λ i. enum_at t q i) (enum-as p q))
@@ -99,15 +96,15 @@ module _ (out : LeftOut) (s t : Text) (n : ℕ) where
 
 -- ---- where declarations are read, and behind the lines of one, is no line that is left out
 
-decl-wrong : (s : Text) (p : ℕ) → is_found (key_at s p (text "decl=")) ≡ false → decl_at s p ≡ DeclRead.Wrong
+decl-wrong : (s : Text) (p : ℕ) → is_found (key_at s p (text "decl=")) ≡ false → decl_at s p ≡ None
 unfolding decl_at
 decl-wrong s p e =
     rw (none "packet\n", none "struct\n", none "enum\n", none "checksum\n", none "custom\n")
   where
-    none : (kind : String) → key_at s p (text "decl=" ++ text kind) ≡ Found.Nothing
+    none : (kind : String) → key_at s p (text "decl=" ++ text kind) ≡ None
     none kind = longer-key s p (text "decl=") (text kind) (sym (key-begins s p (text "decl=")) ∙ e)
 
-decl-here : (s : Text) (p : ℕ) (d : Decl) (i : ℕ) → decl_at s p ≡ DeclRead.Is d i → is_found (key_at s p (text "decl=")) ≡ true
+decl-here : (s : Text) (p : ℕ) (d : Decl) (i : ℕ) → decl_at s p ≡ Some (d, i) → is_found (key_at s p (text "decl=")) ≡ true
 decl-here s p d i e = by (is_found (key_at s p (text "decl="))) refl
   where
     by : (b : Bool) → is_found (key_at s p (text "decl=")) ≡ b → b ≡ true
@@ -129,9 +126,9 @@ unfolding declarations_at
 declarations-here s zero p ds e = impossible (cc)
 declarations-here s (suc f) p ds e = by (decl_at s p) refl e
   where
-    by : (a : DeclRead) → decl_at s p ≡ a → on_decl a no_declarations (decl_then s f) ≡ declarations_are ds → is_found (key_at s p (text "decl=")) ≡ true
-    by (DeclRead.Is d i) h g = decl-here s p d i h
-    by DeclRead.Wrong h g = impossible (cc)
+    by : (a : Read Decl) → decl_at s p ≡ a → on_read a no_declarations (decl_then s f) ≡ declarations_are ds → is_found (key_at s p (text "decl=")) ≡ true
+    by (Some (d, i)) h g = decl-here s p d i h
+    by None h g = impossible (cc)
 
 module _ (out : LeftOut) (s : Text) where
   declarations-clear : (f p : ℕ) (ds : List Declaration) → declarations_at s f p ≡ declarations_are ds → is_out out (drop p s) ≡ false
@@ -146,11 +143,11 @@ module _ (out : LeftOut) (s : Text) where
   fields-clear zero p xs i e c = impossible (cc)
   fields-clear (suc f) p xs i e c = by (key_at s p (text "field=")) refl e
     where
-      by : (a : Found) → key_at s p (text "field=") ≡ a
-          → on_found a (fields_are [] p) (λ b. on_field (field_at s p) no_fields λ x j. with_field x (fields_at s f j)) ≡ fields_are xs i
+      by : (a : Option ℕ) → key_at s p (text "field=") ≡ a
+          → on_found a (fields_are [] p) (λ b. on_read (field_at s p) no_fields λ x j. with_field x (fields_at s f j)) ≡ fields_are xs i
           → is_out out (drop p s) ≡ false
-      by Found.Nothing h z = no-field-clear p xs i z c
-      by (Found.At j) h z = not-out out s p (text "field=") refl (ap is_found h)
+      by None h z = no-field-clear p xs i z c
+      by (Some j) h z = not-out out s p (text "field=") refl (ap is_found h)
 
   behind-clear : (d : DeclDesc) (p : ℕ) (xs : List Field) (i : ℕ) → fields_behind s d p ≡ fields_are xs i → is_out out (drop i s) ≡ false
       → is_out out (drop p s) ≡ false
@@ -219,7 +216,7 @@ module _ (out : LeftOut) (s t : Text) where
     pub stating : Stating (keeps out) ds declarations
 
   -- a declaration, its fields, and those behind it
-  module _ (f q : ℕ) (d e : Decl) (i j : ℕ) (g : decl_at t q ≡ DeclRead.Is e j) (u : Declared out s t (length (drop q t)) d i (DeclRead.Is e j))
+  module _ (f q : ℕ) (d e : Decl) (i j : ℕ) (g : decl_at t q ≡ Some (e, j)) (u : Declared out s t (length (drop q t)) d i (Some (e, j)))
       (xs : List Field) (a : ℕ) (w : ReadFields out s t (fields_behind t e.desc j) j xs a) where
     join : (zs : List Declaration) → ReadDeclarations (onwards t f w.end) zs
         → ReadDeclarations (declarations_at t (suc f) q) (record { decl = d; fields = xs } ∷ zs)
@@ -227,7 +224,7 @@ module _ (out : LeftOut) (s t : Text) where
     join zs v =
         record {
           declarations = record { decl = e; fields = w.fields } ∷ v.declarations;
-          read = ap (λ (b : DeclRead). on_decl b no_declarations (decl_then t f)) g
+          read = ap (λ (b : Read Decl). on_read b no_declarations (decl_then t f)) g
               ∙ ap (λ (b : Fields). on_fields b no_declarations (fields_then t f e)) w.read
               ∙ ap (with_declaration (record { decl = e; fields = w.fields })) v.read;
           same = SameDeclarations.more (record { decl = u.0; fields = w.same }) v.same;
@@ -262,7 +259,7 @@ module _ (out : LeftOut) (s t : Text) where
       → length (drop q t) < f₂ → ReadDeclarations (declarations_at t f₂ q) ds
 
   module _ (f₁ f₂ q : ℕ) (l : length (drop q t) < suc f₂) (ds : List Declaration) (ih : Later f₁ f₂) (d e : Decl) (i j : ℕ)
-      (g : decl_at t q ≡ DeclRead.Is e j) (u : Declared out s t (length (drop q t)) d i (DeclRead.Is e j)) (xs : List Field) (a : ℕ)
+      (g : decl_at t q ≡ Some (e, j)) (u : Declared out s t (length (drop q t)) d i (Some (e, j))) (xs : List Field) (a : ℕ)
       (h : fields_behind s d.desc i ≡ fields_are xs a) where
     fields : is_out out (drop a s) ≡ false → ReadFields out s t (fields_behind t e.desc j) j xs a
     fields c = behind-as d.desc e.desc u.0.desc i j xs a h c u.2.rests (omega (arith, u.2.less, length-drop q t))
@@ -301,18 +298,18 @@ module _ (out : LeftOut) (s t : Text) where
       Result : Type 0
       Result = ReadDeclarations (declarations_at t (suc f₂) q) ds
 
-      between : (d e : Decl) (i j : ℕ) → decl_at t q ≡ DeclRead.Is e j → Declared out s t (length (drop q t)) d i (DeclRead.Is e j) → Later f₁ f₂
+      between : (d e : Decl) (i j : ℕ) → decl_at t q ≡ Some (e, j) → Declared out s t (length (drop q t)) d i (Some (e, j)) → Later f₁ f₂
           → (b : Fields) → fields_behind s d.desc i ≡ b → on_fields b no_declarations (fields_then s f₁ d) ≡ declarations_are ds → Result
       between d e i j g u ih no_fields h z = impossible (cc)
       between d e i j g u ih (fields_are xs a) h z = last f₁ f₂ q l ds ih d e i j g u xs a h (ltb a (length s)) refl z
 
-      clear : (d : Decl) (i : ℕ) → decl_at s p ≡ DeclRead.Is d i → is_out out (drop p s) ≡ false
+      clear : (d : Decl) (i : ℕ) → decl_at s p ≡ Some (d, i) → is_out out (drop p s) ≡ false
       clear d i h = not-out out s p (text "decl=") refl (decl-here s p d i h)
 
-      first : (a : DeclRead) → decl_at s p ≡ a → (b : DeclRead) → decl_at t q ≡ b
+      first : (a : Read Decl) → decl_at s p ≡ a → (b : Read Decl) → decl_at t q ≡ b
           → (is_out out (drop p s) ≡ false → DeclAs out s t (length (drop q t)) a b) → Later f₁ f₂
-          → on_decl a no_declarations (decl_then s f₁) ≡ declarations_are ds → Result
-      first DeclRead.Wrong h b g k ih z = impossible (cc)
-      first (DeclRead.Is d i) h DeclRead.Wrong g k ih z = absurd (k (clear d i h) (decl-clear out s f₁ d i ds z))
-      first (DeclRead.Is d i) h (DeclRead.Is e j) g k ih z =
+          → on_read a no_declarations (decl_then s f₁) ≡ declarations_are ds → Result
+      first None h b g k ih z = impossible (cc)
+      first (Some (d, i)) h None g k ih z = absurd (k (clear d i h) (decl-clear out s f₁ d i ds z))
+      first (Some (d, i)) h (Some (e, j)) g k ih z =
           between d e i j g (k (clear d i h) (decl-clear out s f₁ d i ds z)) ih (fields_behind s d.desc i) refl z

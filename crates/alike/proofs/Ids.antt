@@ -1,6 +1,9 @@
 -- What holds of every name that is read in the record holds of its declarations' names (`ids-are`): each was read at its place (`id-read`), and has at most
 -- 32 bytes (`id-short`).
 -- Assumes nothing.
+use Rattle.std.specs.Prelude.{Option, Some, None}
+use Rattle.definitions.specs.Record.{Read, key_at, name_at, on_found, on_read, on_fields, number_line, name_line, bit_line, maybe_number_line, maybe_name_line, bits_line, parented_at, packet_at, struct_at, enum_at, checksum_decl_at, custom_at, decl_at, Declaration, Fields, fields_are, no_fields, Declarations, declarations_are, no_declarations, record_is, fields_behind, with_declaration, declarations_at, read_record}
+use Rattle.definitions.specs.declared.Size.{Size}
 use mathlib.Core.Bool.{Bool, true, false}
 use mathlib.Core.List.{List, [], ◌∷◌, ◌++◌}
 use mathlib.Core.Path.{◌≡◌, refl, subst}
@@ -8,22 +11,10 @@ use Prim.Native.Nat.{ℕ, zero, suc, ◌≤◌}
 use lib.Dec.{ltb}
 use lib.ListN.{length}
 use Rattle.definitions.specs.Bytes.{Text, text, part}
-use Rattle.definitions.specs.Record.{key_at, name_at, on_found, on_number, on_name, on_bit, on_maybe_number, on_maybe_part, on_maybe_size, on_decl, on_fields, number_line, name_line, bit_line, maybe_number_line, maybe_name_line, bits_line, parented_at, packet_at, struct_at, enum_at, checksum_decl_at, custom_at, decl_at, Declaration, Fields, fields_are, no_fields, Declarations, declarations_are, no_declarations, record_is, fields_behind, with_declaration, declarations_at, read_record}
 use Rattle.definitions.specs.declared.Part.{Part}
-use Rattle.definitions.specs.declared.MaybePart.{MaybePart}
-use Rattle.definitions.specs.declared.MaybeNumber.{MaybeNumber}
-use Rattle.definitions.specs.declared.MaybeSize.{MaybeSize}
 use Rattle.definitions.specs.declared.Head.{Head}
 use Rattle.definitions.specs.declared.DeclDesc.{DeclDesc}
 use Rattle.definitions.specs.declared.Decl.{Decl}
-use Rattle.definitions.specs.declared.Found.{Found}
-use Rattle.definitions.specs.declared.NumberRead.{NumberRead}
-use Rattle.definitions.specs.declared.NameRead.{NameRead}
-use Rattle.definitions.specs.declared.BitRead.{BitRead}
-use Rattle.definitions.specs.declared.MaybeNumberRead.{MaybeNumberRead}
-use Rattle.definitions.specs.declared.MaybePartRead.{MaybePartRead}
-use Rattle.definitions.specs.declared.MaybeSizeRead.{MaybeSizeRead}
-use Rattle.definitions.specs.declared.DeclRead.{DeclRead}
 use Rattle.lengths.proofs.Names.{NameIs}
 use Rattle.alike.proofs.Reading.{RecordIs, record_is_lem}
 use Rattle.alike.proofs.Words.{Spelled, name-spelled, part-spelled}
@@ -39,58 +30,58 @@ module _ (P : Part → Type 0) where
 
   -- ---- the answers of the readers
 
-  abbrev DeclOk : DeclRead → Type 0
-  DeclOk DeclRead.Wrong = Unit {0}
-  DeclOk (DeclRead.Is d p) = P d.id
+  abbrev DeclOk : Read Decl → Type 0
+  DeclOk None = Unit {0}
+  DeclOk (Some (d, p)) = P d.id
 
   abbrev DeclarationsOk : Declarations → Type 0
   DeclarationsOk no_declarations = Unit {0}
   DeclarationsOk (declarations_are ds) = IdsAre ds
 
   -- on from an answer: where nothing was read, nothing is asked
-  on-number : (r : NumberRead) (f : ℕ → ℕ → DeclRead) → ((n p : ℕ) → DeclOk (f n p)) → DeclOk (on_number r DeclRead.Wrong f)
-  on-number (NumberRead.Is n p) f h = h n p
-  on-number NumberRead.Wrong f h = tt
+  on-number : (r : Read ℕ) (f : ℕ → ℕ → Read Decl) → ((n p : ℕ) → DeclOk (f n p)) → DeclOk (on_read r None f)
+  on-number (Some (n, p)) f h = h n p
+  on-number None f h = tt
 
-  on-bit : (r : BitRead) (f : Bool → ℕ → DeclRead) → ((n : Bool) (p : ℕ) → DeclOk (f n p)) → DeclOk (on_bit r DeclRead.Wrong f)
-  on-bit (BitRead.Is n p) f h = h n p
-  on-bit BitRead.Wrong f h = tt
+  on-bit : (r : Read Bool) (f : Bool → ℕ → Read Decl) → ((n : Bool) (p : ℕ) → DeclOk (f n p)) → DeclOk (on_read r None f)
+  on-bit (Some (n, p)) f h = h n p
+  on-bit None f h = tt
 
-  on-maybe-number : (r : MaybeNumberRead) (f : MaybeNumber → ℕ → DeclRead) → ((n : MaybeNumber) (p : ℕ) → DeclOk (f n p))
-      → DeclOk (on_maybe_number r DeclRead.Wrong f)
-  on-maybe-number (MaybeNumberRead.Is n p) f h = h n p
-  on-maybe-number MaybeNumberRead.Wrong f h = tt
+  on-maybe-number : (r : Read (Option ℕ)) (f : Option ℕ → ℕ → Read Decl) → ((n : Option ℕ) (p : ℕ) → DeclOk (f n p))
+      → DeclOk (on_read r None f)
+  on-maybe-number (Some (n, p)) f h = h n p
+  on-maybe-number None f h = tt
 
-  on-maybe-part : (r : MaybePartRead) (f : MaybePart → ℕ → DeclRead) → ((n : MaybePart) (p : ℕ) → DeclOk (f n p))
-      → DeclOk (on_maybe_part r DeclRead.Wrong f)
-  on-maybe-part (MaybePartRead.Is n p) f h = h n p
-  on-maybe-part MaybePartRead.Wrong f h = tt
+  on-maybe-part : (r : Read (Option Part)) (f : Option Part → ℕ → Read Decl) → ((n : Option Part) (p : ℕ) → DeclOk (f n p))
+      → DeclOk (on_read r None f)
+  on-maybe-part (Some (n, p)) f h = h n p
+  on-maybe-part None f h = tt
 
-  on-maybe-size : (r : MaybeSizeRead) (f : MaybeSize → ℕ → DeclRead) → ((n : MaybeSize) (p : ℕ) → DeclOk (f n p))
-      → DeclOk (on_maybe_size r DeclRead.Wrong f)
-  on-maybe-size (MaybeSizeRead.Is n p) f h = h n p
-  on-maybe-size MaybeSizeRead.Wrong f h = tt
+  on-maybe-size : (r : Read (Option Size)) (f : Option Size → ℕ → Read Decl) → ((n : Option Size) (p : ℕ) → DeclOk (f n p))
+      → DeclOk (on_read r None f)
+  on-maybe-size (Some (n, p)) f h = h n p
+  on-maybe-size None f h = tt
 
-  on-found : (r : Found) (bad : DeclRead) (f : ℕ → DeclRead) → DeclOk bad → ((p : ℕ) → DeclOk (f p)) → DeclOk (on_found r bad f)
-  on-found (Found.At p) bad f b h = h p
-  on-found Found.Nothing bad f b h = b
+  on-found : (r : Option ℕ) (bad : Read Decl) (f : ℕ → Read Decl) → DeclOk bad → ((p : ℕ) → DeclOk (f p)) → DeclOk (on_found r bad f)
+  on-found (Some p) bad f b h = h p
+  on-found None bad f b h = b
 
   module _ (s : Text) (name : (at : ℕ) → NameIs P (name_at s at)) where
     -- every declaration is named in the line behind its first
-    then-named : (p : ℕ) (f : Part → ℕ → DeclRead) → ((id : Part) (q : ℕ) → P id → DeclOk (f id q))
-        → DeclOk (on_name (name_line s p (text "name=")) DeclRead.Wrong f)
+    then-named : (p : ℕ) (f : Part → ℕ → Read Decl) → ((id : Part) (q : ℕ) → P id → DeclOk (f id q))
+        → DeclOk (on_read (name_line s p (text "name=")) None f)
     unfolding name_line
     then-named p f h = found (key_at s p (text "name="))
       where
-        read : (r : NameRead) → NameIs P r → DeclOk (on_name r DeclRead.Wrong f)
-        read (NameRead.Is id q) k = h id q k
-        read NameRead.Wrong k = tt
+        read : (r : Read Part) → NameIs P r → DeclOk (on_read r None f)
+        read (Some (id, q)) k = h id q k
+        read None k = tt
 
-        found : (a : Found) → DeclOk (on_name (on_found a NameRead.Wrong λ i. name_at s i) DeclRead.Wrong f)
-        found (Found.At i) = read (name_at s i) (name i)
-        found Found.Nothing = tt
+        found : (a : Option ℕ) → DeclOk (on_read (on_found a None λ i. name_at s i) None f)
+        found (Some i) = read (name_at s i) (name i)
+        found None = tt
 
-    parented : (desc : MaybePart → DeclDesc) (at p : ℕ) → DeclOk (parented_at desc s at p)
+    parented : (desc : Option Part → DeclDesc) (at p : ℕ) → DeclOk (parented_at desc s at p)
     parented desc at p =
         then-named p _ λ id q k.
         on-maybe-part (maybe_name_line s q (text "parent=")) _ λ parent r.
@@ -127,7 +118,7 @@ module _ (P : Part → Type 0) where
         (on-found (key_at s at (text "decl=struct\n")) _ _
         (on-found (key_at s at (text "decl=enum\n")) _ _
         (on-found (key_at s at (text "decl=checksum\n")) _ _
-        (on-found (key_at s at (text "decl=custom\n")) DeclRead.Wrong _ tt (custom at))
+        (on-found (key_at s at (text "decl=custom\n")) None _ tt (custom at))
         (checksum at))
         (enum at))
         (struct at))
@@ -155,12 +146,12 @@ module _ (P : Part → Type 0) where
         fields more d h (fields_are xs q) =
             with_first (record { decl = d; fields = xs }) (later (ltb q (length s)) q) h (end more q (ltb q (length s)))
 
-        first : ((q : ℕ) → DeclarationsOk (declarations_at s fuel q)) → (r : DeclRead) → DeclOk r
-            → DeclarationsOk (on_decl r no_declarations λ d p.
+        first : ((q : ℕ) → DeclarationsOk (declarations_at s fuel q)) → (r : Read Decl) → DeclOk r
+            → DeclarationsOk (on_read r no_declarations λ d p.
             on_fields (fields_behind s d.desc p) no_declarations λ xs q.
             with_declaration (record { decl = d; fields = xs }) (later (ltb q (length s)) q))
-        first more DeclRead.Wrong h = tt
-        first more (DeclRead.Is d p) h = fields more d h (fields_behind s d.desc p)
+        first more None h = tt
+        first more (Some (d, p)) h = fields more d h (fields_behind s d.desc p)
 
     -- the declarations of the record
     pub ids-are : (h : Head) (ds : List Declaration) → read_record s ≡ record_is h ds → IdsAre ds
@@ -171,27 +162,27 @@ module _ (P : Part → Type 0) where
 -- ---- one of the declarations
 
 -- a name that was read
-pub record Read (s : Text) (n : Part) : Type 0 where
+pub record WasRead (s : Text) (n : Part) : Type 0 where
   pub at : ℕ
   pub next : ℕ
-  pub name : name_at s at ≡ NameRead.Is n next
+  pub name : name_at s at ≡ Some (n, next)
 
-read-there : (s : Text) (at : ℕ) → NameIs (Read s) (name_at s at)
+read-there : (s : Text) (at : ℕ) → NameIs (WasRead s) (name_at s at)
 read-there s at = by (name_at s at) refl
   where
-    by : (r : NameRead) → name_at s at ≡ r → NameIs (Read s) r
-    by NameRead.Wrong e = tt
-    by (NameRead.Is n p) e = record { at = at; next = p; name = e }
+    by : (r : Read Part) → name_at s at ≡ r → NameIs (WasRead s) r
+    by None e = tt
+    by (Some (n, p)) e = record { at = at; next = p; name = e }
 
 module _ (s : Text) (h : Head) (ds : List Declaration) (e : read_record s ≡ record_is h ds) (pre post : List Declaration) (d : Declaration)
     (is : ds ≡ pre ++ (d ∷ post)) where
   -- its name was read as one
-  pub id-read : Read s d.decl.id
-  id-read = id-of (Read s) pre post d (subst (IdsAre (Read s)) is (ids-are (Read s) s (read-there s) h ds e))
+  pub id-read : WasRead s d.decl.id
+  id-read = id-of (WasRead s) pre post d (subst (IdsAre (WasRead s)) is (ids-are (WasRead s) s (read-there s) h ds e))
 
   -- and so is no longer than a name may be
   pub id-short : length (part s d.decl.id) ≤ 32
   id-short =
-      let r : Read s d.decl.id = id-read in
-      let w : Spelled s r.at (NameRead.Is d.decl.id r.next) = name-spelled s r.at d.decl.id r.next r.name in
+      let r : WasRead s d.decl.id = id-read in
+      let w : Spelled s r.at (Some (d.decl.id, r.next)) = name-spelled s r.at d.decl.id r.next r.name in
       rw (part-spelled s r.at d.decl.id r.next w) w.short

@@ -1,5 +1,8 @@
 -- The reader's leaves at two places whose rests say the same: a key, a number, a name is read at both, and the rests behind it say the same.
 -- Assumes nothing.
+use Rattle.std.specs.Prelude.{Option, Some, None}
+use Rattle.definitions.specs.Record.{Read, key_of, key_at, digits_of, number_of, number_at, part_of, word_of, name_of, is_found, digits_line, some_digits, digits_behind, is_forbidden, name_at}
+use Rattle.definitions.specs.declared.Part.{Part}
 use mathlib.Core.Bool.{Bool, true, false, ◌&&◌, not}
 use mathlib.Core.List.{[], ◌∷◌, ◌++◌}
 use mathlib.Core.Path.{◌≡◌, refl, sym, ap, ◌∙◌, subst}
@@ -10,10 +13,6 @@ use lib.ListN.{length, take, drop}
 use lib.Seq.{drop-drop, take-add}
 use borrow.Author.Tests.{eqb-true}
 use Rattle.definitions.specs.Bytes.{Text, text, pick, part, is_digit, is_word}
-use Rattle.definitions.specs.Record.{key_of, key_at, digits_of, number_of, number_at, part_of, word_of, name_of, is_found, digits_line, some_digits, digits_behind, is_forbidden, name_at}
-use Rattle.definitions.specs.declared.Found.{Found}
-use Rattle.definitions.specs.declared.NumberRead.{NumberRead}
-use Rattle.definitions.specs.declared.NameRead.{NameRead}
 use Rattle.lengths.proofs.Booleans.{impossible}
 use Rattle.alike.specs.Without.{begins}
 use Rattle.alike.proofs.Same.{SamePart}
@@ -58,27 +57,27 @@ digit-only x h = by (eqb x 10) refl
 -- ---- answers at both
 
 module _ (R : ℕ → ℕ → Type 0) where
-  abbrev pub FoundAs : Found → Found → Type 0
-  FoundAs (Found.At p) (Found.At q) = R p q
-  FoundAs (Found.At p) Found.Nothing = ⊥
-  FoundAs Found.Nothing (Found.At q) = ⊥
-  FoundAs Found.Nothing Found.Nothing = Unit {0}
+  abbrev pub FoundAs : Option ℕ → Option ℕ → Type 0
+  FoundAs (Some p) (Some q) = R p q
+  FoundAs (Some p) None = ⊥
+  FoundAs None (Some q) = ⊥
+  FoundAs None None = Unit {0}
 
-  abbrev pub NumberAs : NumberRead → NumberRead → Type 0
-  NumberAs NumberRead.Wrong r = Unit {0}
-  NumberAs (NumberRead.Is a p) NumberRead.Wrong = ⊥
-  NumberAs (NumberRead.Is a p) (NumberRead.Is b q) = (a ≡ b) × R p q
+  abbrev pub NumberAs : Read ℕ → Read ℕ → Type 0
+  NumberAs None r = Unit {0}
+  NumberAs (Some (a, p)) None = ⊥
+  NumberAs (Some (a, p)) (Some (b, q)) = (a ≡ b) × R p q
 
-  abbrev pub NameAs : Text → Text → NameRead → NameRead → Type 0
-  NameAs s t NameRead.Wrong r = Unit {0}
-  NameAs s t (NameRead.Is a p) NameRead.Wrong = ⊥
-  NameAs s t (NameRead.Is a p) (NameRead.Is b q) = SamePart s t a b × R p q
+  abbrev pub NameAs : Text → Text → Read Part → Read Part → Type 0
+  NameAs s t None r = Unit {0}
+  NameAs s t (Some (a, p)) None = ⊥
+  NameAs s t (Some (a, p)) (Some (b, q)) = SamePart s t a b × R p q
 
-pub found-same : (R : ℕ → ℕ → Type 0) (a b : Found) → FoundAs R a b → is_found a ≡ is_found b
-found-same R (Found.At p) (Found.At q) h = refl
-found-same R (Found.At p) Found.Nothing h = absurd h
-found-same R Found.Nothing (Found.At q) h = absurd h
-found-same R Found.Nothing Found.Nothing h = refl
+pub found-same : (R : ℕ → ℕ → Type 0) (a b : Option ℕ) → FoundAs R a b → is_found a ≡ is_found b
+found-same R (Some p) (Some q) h = refl
+found-same R (Some p) None h = absurd h
+found-same R None (Some q) h = absurd h
+found-same R None None h = refl
 
 module _ (out : LeftOut) (s t : Text) (n : ℕ) where
   -- rests that say the same, the second of them shorter than n
@@ -117,8 +116,8 @@ module _ (out : LeftOut) (s t : Text) (n : ℕ) where
           → (fits b ks ≡ true → drop (p + 1) s ≡ u → drop (q + 1) t ≡ v → length v < n + length ks → Rests out inside u v
           → FoundAs (To (behind b inside)) (key_of ks u (p + 1)) (key_of ks v (q + 1)))
           → pick d (b && is_nil ks) (fits b ks) ≡ true
-          → FoundAs (To (behind b inside)) (elim c [ true ↦ key_of ks u (p + 1) | false ↦ Found.Nothing ])
-          (elim c [ true ↦ key_of ks v (q + 1) | false ↦ Found.Nothing ])
+          → FoundAs (To (behind b inside)) (elim c [ true ↦ key_of ks u (p + 1) | false ↦ None ])
+          (elim c [ true ↦ key_of ks v (q + 1) | false ↦ None ])
       by false h d i ih j = tt
       by true h true i ih j =
           last b ks j (subst (λ (y : Bool). Rests out (behind y inside) u v) (newline h ∙ i) r) (omega arith)
@@ -147,19 +146,19 @@ module _ (out : LeftOut) (s t : Text) (n : ℕ) where
       (digits_of w (value * 10 + (x - 48)) (q + 1)) r
       (digits-inside u w (value * 10 + (x - 48)) (p + 1) (q + 1) (rest-behind s p x u e) (rest-behind t q x w g) (omega arith))
     where
-      by : (a b c d : Bool) (i j : NumberRead) → Rests out (behind a inside) u w → (Rests out inside u w → NumberAs (To start) i j)
+      by : (a b c d : Bool) (i j : Read ℕ) → Rests out (behind a inside) u w → (Rests out inside u w → NumberAs (To start) i j)
           → NumberAs (To start) (elim a [
-            | true ↦ NumberRead.Is value (p + 1)
+            | true ↦ Some (value, p + 1)
             | false ↦ elim b [
-              | true ↦ elim c [ true ↦ NumberRead.Wrong | false ↦ elim d [ true ↦ i | false ↦ NumberRead.Wrong ] ]
-              | false ↦ NumberRead.Wrong
+              | true ↦ elim c [ true ↦ None | false ↦ elim d [ true ↦ i | false ↦ None ] ]
+              | false ↦ None
             ]
           ])
           (elim a [
-            | true ↦ NumberRead.Is value (q + 1)
+            | true ↦ Some (value, q + 1)
             | false ↦ elim b [
-              | true ↦ elim c [ true ↦ NumberRead.Wrong | false ↦ elim d [ true ↦ j | false ↦ NumberRead.Wrong ] ]
-              | false ↦ NumberRead.Wrong
+              | true ↦ elim c [ true ↦ None | false ↦ elim d [ true ↦ j | false ↦ None ] ]
+              | false ↦ None
             ]
           ])
       by true b c d i j k h = (refl, to start (p + 1) (q + 1) u w (rest-behind s p x u e) (rest-behind t q x w g) (omega arith) k)
@@ -175,8 +174,8 @@ module _ (out : LeftOut) (s t : Text) (n : ℕ) where
   number-inside (x ∷ u) v p q e g l (next {v = w} r) = by (is_digit x) refl
     where
       by : (b : Bool) → is_digit x ≡ b
-          → NumberAs (To start) (elim b [ true ↦ digits_of u (x - 48) (p + 1) | false ↦ NumberRead.Wrong ])
-          (elim b [ true ↦ digits_of w (x - 48) (q + 1) | false ↦ NumberRead.Wrong ])
+          → NumberAs (To start) (elim b [ true ↦ digits_of u (x - 48) (p + 1) | false ↦ None ])
+          (elim b [ true ↦ digits_of w (x - 48) (q + 1) | false ↦ None ])
       by false h = tt
       by true h =
           digits-inside u w (x - 48) (p + 1) (q + 1) (rest-behind s p x u e) (rest-behind t q x w g) (omega arith)
@@ -196,14 +195,14 @@ module _ (out : LeftOut) (s t : Text) (n : ℕ) where
       (word-inside u w from₁ from₂ (c + 1) (p + 1) (q + 1) (omega arith) (omega arith) (rest-behind s p x u e) (rest-behind t q x w g) (omega arith)
       (part-grows s from₁ p x u h₁ e ∙ ap (λ (y : Text). y ++ (x ∷ [])) k ∙ sym (part-grows t from₂ q x w h₂ g)))
     where
-      by : (a b d : Bool) (i j : NameRead) → Rests out (behind a inside) u w → (Rests out inside u w → NameAs (To start) s t i j)
+      by : (a b d : Bool) (i j : Read Part) → Rests out (behind a inside) u w → (Rests out inside u w → NameAs (To start) s t i j)
           → NameAs (To start) s t (elim a [
-            | true ↦ NameRead.Is (part_of from₁ p) (p + 1)
-            | false ↦ elim b [ true ↦ NameRead.Wrong | false ↦ elim d [ true ↦ i | false ↦ NameRead.Wrong ] ]
+            | true ↦ Some (part_of from₁ p, p + 1)
+            | false ↦ elim b [ true ↦ None | false ↦ elim d [ true ↦ i | false ↦ None ] ]
           ])
           (elim a [
-            | true ↦ NameRead.Is (part_of from₂ q) (q + 1)
-            | false ↦ elim b [ true ↦ NameRead.Wrong | false ↦ elim d [ true ↦ j | false ↦ NameRead.Wrong ] ]
+            | true ↦ Some (part_of from₂ q, q + 1)
+            | false ↦ elim b [ true ↦ None | false ↦ elim d [ true ↦ j | false ↦ None ] ]
           ])
       by true b d i j o h = (k, to start (p + 1) (q + 1) u w (rest-behind s p x u e) (rest-behind t q x w g) (omega arith) o)
       by false true d i j o h = tt
@@ -223,9 +222,9 @@ module _ (out : LeftOut) (s t : Text) (n : ℕ) where
           ap (λ (k : ℕ). take k (drop p s)) (let z : p - p ≡ 0 = omega arith in z)
           ∙ ap (λ (k : ℕ). take k (drop q t)) (let z : 0 ≡ q - q = omega arith in z)
 
-      by : (a b : Bool) (i j : NameRead) → NameAs (To start) s t i j
-          → NameAs (To start) s t (elim a [ true ↦ NameRead.Wrong | false ↦ elim b [ true ↦ NameRead.Wrong | false ↦ i ] ])
-          (elim a [ true ↦ NameRead.Wrong | false ↦ elim b [ true ↦ NameRead.Wrong | false ↦ j ] ])
+      by : (a b : Bool) (i j : Read Part) → NameAs (To start) s t i j
+          → NameAs (To start) s t (elim a [ true ↦ None | false ↦ elim b [ true ↦ None | false ↦ i ] ])
+          (elim a [ true ↦ None | false ↦ elim b [ true ↦ None | false ↦ j ] ])
       by true b i j h = tt
       by false true i j h = tt
       by false false i j h = h
@@ -261,11 +260,11 @@ module _ (out : LeftOut) (s t : Text) (n : ℕ) where
         digits (key_at s p (text "chunk")) (key_at t q (text "chunk")) (key-there false (text "chunk") p q refl k),
       )
     where
-      digits : (a b : Found) → FoundAs (To inside) a b → digits_behind s a ≡ digits_behind t b
-      digits (Found.At i) (Found.At j) h = some-digits-same (drop i s) (drop j t) h.rests
-      digits (Found.At i) Found.Nothing h = absurd h
-      digits Found.Nothing (Found.At j) h = absurd h
-      digits Found.Nothing Found.Nothing h = refl
+      digits : (a b : Option ℕ) → FoundAs (To inside) a b → digits_behind s a ≡ digits_behind t b
+      digits (Some i) (Some j) h = some-digits-same (drop i s) (drop j t) h.rests
+      digits (Some i) None h = absurd h
+      digits None (Some j) h = absurd h
+      digits None None h = refl
 
   pub name-there : (p q : ℕ) → To inside p q → NameAs (To start) s t (name_at s p) (name_at t q)
   unfolding name_at
@@ -273,8 +272,8 @@ module _ (out : LeftOut) (s t : Text) (n : ℕ) where
       (name-inside (drop p s) (drop q t) p q refl refl k.less k.rests)
     where
       by : (a b : Bool) → a ≡ b → NameAs (To start) s t (name_of (drop p s) p) (name_of (drop q t) q)
-          → NameAs (To start) s t (elim a [ true ↦ NameRead.Wrong | false ↦ name_of (drop p s) p ])
-          (elim b [ true ↦ NameRead.Wrong | false ↦ name_of (drop q t) q ])
+          → NameAs (To start) s t (elim a [ true ↦ None | false ↦ name_of (drop p s) p ])
+          (elim b [ true ↦ None | false ↦ name_of (drop q t) q ])
       by true b e h = tt
       by false true e h = impossible (cc)
       by false false e h = h
@@ -289,7 +288,7 @@ found-anywhere (k ∷ ks) [] p q = refl
 found-anywhere (k ∷ ks) (x ∷ u) p q = by (eqb x k) (found-anywhere ks u (p + 1) (q + 1))
   where
     by : (b : Bool) → is_found (key_of ks u (p + 1)) ≡ is_found (key_of ks u (q + 1))
-        → is_found (elim b [ true ↦ key_of ks u (p + 1) | false ↦ Found.Nothing ]) ≡ is_found (elim b [ true ↦ key_of ks u (q + 1) | false ↦ Found.Nothing ])
+        → is_found (elim b [ true ↦ key_of ks u (p + 1) | false ↦ None ]) ≡ is_found (elim b [ true ↦ key_of ks u (q + 1) | false ↦ None ])
     by true h = h
     by false h = refl
 
@@ -298,24 +297,24 @@ unfolding begins
 key-begins s p key = found-anywhere key (drop p s) p 0
 
 -- a key is not there where its beginning is not
-longer : (ks ls u : Text) (p q : ℕ) → is_found (key_of ks u q) ≡ false → key_of (ks ++ ls) u p ≡ Found.Nothing
+longer : (ks ls u : Text) (p q : ℕ) → is_found (key_of ks u q) ≡ false → key_of (ks ++ ls) u p ≡ None
 unfolding key_of
 longer [] ls u p q h = impossible (cc)
 longer (k ∷ ks) ls [] p q h = refl
 longer (k ∷ ks) ls (x ∷ u) p q h = by (eqb x k) h (longer ks ls u (p + 1) (q + 1))
   where
-    by : (b : Bool) → is_found (elim b [ true ↦ key_of ks u (q + 1) | false ↦ Found.Nothing ]) ≡ false
-        → (is_found (key_of ks u (q + 1)) ≡ false → key_of (ks ++ ls) u (p + 1) ≡ Found.Nothing)
-        → ◌≡◌ {A = Found} (elim b [ true ↦ key_of (ks ++ ls) u (p + 1) | false ↦ Found.Nothing ]) Found.Nothing
+    by : (b : Bool) → is_found (elim b [ true ↦ key_of ks u (q + 1) | false ↦ None ]) ≡ false
+        → (is_found (key_of ks u (q + 1)) ≡ false → key_of (ks ++ ls) u (p + 1) ≡ None)
+        → ◌≡◌ {A = Option ℕ} (elim b [ true ↦ key_of (ks ++ ls) u (p + 1) | false ↦ None ]) None
     by true i ih = ih i
     by false i ih = refl
 
-pub longer-key : (s : Text) (p : ℕ) (key more : Text) → begins key (drop p s) ≡ false → key_at s p (key ++ more) ≡ Found.Nothing
+pub longer-key : (s : Text) (p : ℕ) (key more : Text) → begins key (drop p s) ≡ false → key_at s p (key ++ more) ≡ None
 unfolding begins
 longer-key s p key more h = longer key more (drop p s) p 0 h
 
 -- of two keys that differ, one is not there
-not-both : (ks ls u : Text) (p q : ℕ) → differ ks ls ≡ true → is_found (key_of ls u q) ≡ true → key_of ks u p ≡ Found.Nothing
+not-both : (ks ls u : Text) (p q : ℕ) → differ ks ls ≡ true → is_found (key_of ls u q) ≡ true → key_of ks u p ≡ None
 unfolding key_of
 not-both [] ls u p q d h = impossible (cc)
 not-both (k ∷ ks) [] u p q d h = impossible (cc)
@@ -326,14 +325,14 @@ not-both (k ∷ ks) (l ∷ ls) (x ∷ u) p q d h = by (eqb x k) refl (eqb x l) r
     same_byte e g = ap (λ (y : ℕ). eqb y l) (sym (eqb-true x k e)) ∙ g
 
     by : (a : Bool) → eqb x k ≡ a → (b : Bool) → eqb x l ≡ b → pick (eqb k l) (differ ks ls) true ≡ true
-        → is_found (elim b [ true ↦ key_of ls u (q + 1) | false ↦ Found.Nothing ]) ≡ true
-        → (differ ks ls ≡ true → is_found (key_of ls u (q + 1)) ≡ true → key_of ks u (p + 1) ≡ Found.Nothing)
-        → ◌≡◌ {A = Found} (elim a [ true ↦ key_of ks u (p + 1) | false ↦ Found.Nothing ]) Found.Nothing
+        → is_found (elim b [ true ↦ key_of ls u (q + 1) | false ↦ None ]) ≡ true
+        → (differ ks ls ≡ true → is_found (key_of ls u (q + 1)) ≡ true → key_of ks u (p + 1) ≡ None)
+        → ◌≡◌ {A = Option ℕ} (elim a [ true ↦ key_of ks u (p + 1) | false ↦ None ]) None
     by false e b g i j ih = refl
     by true e false g i j ih = impossible (cc)
     by true e true g i j ih = ih (subst (λ (b : Bool). pick b (differ ks ls) true ≡ true) (same_byte e g) i) j
 
-pub differing-key : (s : Text) (p : ℕ) (key other : Text) → differ key other ≡ true → begins other (drop p s) ≡ true → key_at s p key ≡ Found.Nothing
+pub differing-key : (s : Text) (p : ℕ) (key other : Text) → differ key other ≡ true → begins other (drop p s) ≡ true → key_at s p key ≡ None
 unfolding begins
 differing-key s p key other d h = not-both key other (drop p s) p 0 d h
 
@@ -369,13 +368,13 @@ apart-each out key d = by out
     by LeftOut.raw = last.0
     by LeftOut.products = last.1
 
-pub key_apart : (out : LeftOut) (s : Text) (p : ℕ) (key : Text) → apart_from out key ≡ true → is_out out (drop p s) ≡ true → key_at s p key ≡ Found.Nothing
+pub key_apart : (out : LeftOut) (s : Text) (p : ℕ) (key : Text) → apart_from out key ≡ true → is_out out (drop p s) ≡ true → key_at s p key ≡ None
 key_apart LeftOut.none s p key d h = impossible (cc)
 key_apart LeftOut.bits s p key d h = differing-key s p key (text "bits=") d h
 key_apart LeftOut.raw s p key d h = differing-key s p key (text "raw=") d h
 key_apart LeftOut.products s p key d h = differing-key s p key (text "products=") d h
 
-pub other_key : (out : LeftOut) (s : Text) (p : ℕ) (key : Text) → apart key ≡ true → is_out out (drop p s) ≡ true → key_at s p key ≡ Found.Nothing
+pub other_key : (out : LeftOut) (s : Text) (p : ℕ) (key : Text) → apart key ≡ true → is_out out (drop p s) ≡ true → key_at s p key ≡ None
 other_key out s p key d h = key_apart out s p key (apart-each out key d) h
 
 -- where another key is there, none is left out
@@ -424,13 +423,13 @@ cleaned r = clean r
 -- ---- a line that is left out
 
 module _ (P : ℕ → Type 0) where
-  abbrev pub FoundOn : Found → Type 0
-  FoundOn (Found.At p) = P p
-  FoundOn Found.Nothing = Unit {0}
+  abbrev pub FoundOn : Option ℕ → Type 0
+  FoundOn (Some p) = P p
+  FoundOn None = Unit {0}
 
-  abbrev pub NumberOn : NumberRead → Type 0
-  NumberOn (NumberRead.Is a p) = P p
-  NumberOn NumberRead.Wrong = Unit {0}
+  abbrev pub NumberOn : Read ℕ → Type 0
+  NumberOn (Some (a, p)) = P p
+  NumberOn None = Unit {0}
 
 module _ (out : LeftOut) (s v : Text) where
   -- the rest that says what `v` does
@@ -458,7 +457,7 @@ module _ (out : LeftOut) (s v : Text) where
       by : (c : Bool) → eqb x k ≡ c → (d : Bool) → eqb k 10 ≡ d
           → (fits b ks ≡ true → drop (p + 1) s ≡ u → Rests out away u v → FoundOn (From (behind b away)) (key_of ks u (p + 1)))
           → pick d (b && is_nil ks) (fits b ks) ≡ true
-          → FoundOn (From (behind b away)) (elim c [ true ↦ key_of ks u (p + 1) | false ↦ Found.Nothing ])
+          → FoundOn (From (behind b away)) (elim c [ true ↦ key_of ks u (p + 1) | false ↦ None ])
       by false h d i ih j = tt
       by true h true i ih j = last b ks j (subst (λ (y : Bool). Rests out (behind y away) u v) (newline h ∙ i) r)
       by true h false i ih j = ih j e₁ (subst (λ (y : Bool). Rests out (behind y away) u v) (newline h ∙ i) r)
@@ -473,12 +472,12 @@ module _ (out : LeftOut) (s v : Text) where
       by (eqb x 10) (is_digit x) (eqb value 0) (ltb (value * 10 + (x - 48)) (2 ^ 64)) (digits_of u (value * 10 + (x - 48)) (p + 1)) r
       (digits-away u (value * 10 + (x - 48)) (p + 1) (rest-behind s p x u e))
     where
-      by : (a b c d : Bool) (i : NumberRead) → Rests out (behind a away) u v → (Rests out away u v → NumberOn (From start) i)
+      by : (a b c d : Bool) (i : Read ℕ) → Rests out (behind a away) u v → (Rests out away u v → NumberOn (From start) i)
           → NumberOn (From start) (elim a [
-            | true ↦ NumberRead.Is value (p + 1)
+            | true ↦ Some (value, p + 1)
             | false ↦ elim b [
-              | true ↦ elim c [ true ↦ NumberRead.Wrong | false ↦ elim d [ true ↦ i | false ↦ NumberRead.Wrong ] ]
-              | false ↦ NumberRead.Wrong
+              | true ↦ elim c [ true ↦ None | false ↦ elim d [ true ↦ i | false ↦ None ] ]
+              | false ↦ None
             ]
           ])
       by true b c d i k h = rw (rest-behind s p x u e) k
@@ -492,7 +491,7 @@ module _ (out : LeftOut) (s v : Text) where
   number-away [] p e r = tt
   number-away (x ∷ u) p e (skip r) = by (is_digit x) refl
     where
-      by : (b : Bool) → is_digit x ≡ b → NumberOn (From start) (elim b [ true ↦ digits_of u (x - 48) (p + 1) | false ↦ NumberRead.Wrong ])
+      by : (b : Bool) → is_digit x ≡ b → NumberOn (From start) (elim b [ true ↦ digits_of u (x - 48) (p + 1) | false ↦ None ])
       by false h = tt
       by true h =
           digits-away u (x - 48) (p + 1) (rest-behind s p x u e)

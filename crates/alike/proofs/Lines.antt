@@ -1,26 +1,16 @@
 -- A line that is read at one of two places whose rests say the same is read at the other: a key and a value, and what follows it.
 -- Assumes nothing.
+use Rattle.std.specs.Prelude.{Option, Some, None}
+use Rattle.definitions.specs.Record.{Read, key_at, number_at, name_at, on_found, on_read, number_line, name_line, bit_line, maybe_number_line, maybe_name_line, modifier_line, stated_at, bits_line}
 use mathlib.Core.Bool.{Bool, true, false, ◌&&◌}
 use mathlib.Core.Logic.{◌⊎◌, inl, inr}
 use mathlib.Core.Path.{◌≡◌, refl, sym, ap, subst}
 use Prim.Native.Nat.{ℕ, ◌≤◌}
 use lib.ListN.{length, drop}
 use Rattle.definitions.specs.Bytes.{Text, text, pick}
-use Rattle.definitions.specs.Record.{key_at, number_at, name_at, on_found, on_number, on_name, on_bit, on_modifier, on_maybe_number, on_maybe_size, on_maybe_part, number_line, name_line, bit_line, maybe_number_line, maybe_name_line, modifier_line, stated_at, bits_line}
 use Rattle.definitions.specs.declared.Part.{Part}
-use Rattle.definitions.specs.declared.MaybePart.{MaybePart}
-use Rattle.definitions.specs.declared.MaybeNumber.{MaybeNumber}
 use Rattle.definitions.specs.declared.Modifier.{Modifier}
 use Rattle.definitions.specs.declared.Size.{Size}
-use Rattle.definitions.specs.declared.MaybeSize.{MaybeSize}
-use Rattle.definitions.specs.declared.Found.{Found}
-use Rattle.definitions.specs.declared.NumberRead.{NumberRead}
-use Rattle.definitions.specs.declared.NameRead.{NameRead}
-use Rattle.definitions.specs.declared.BitRead.{BitRead}
-use Rattle.definitions.specs.declared.ModifierRead.{ModifierRead}
-use Rattle.definitions.specs.declared.MaybeNumberRead.{MaybeNumberRead}
-use Rattle.definitions.specs.declared.MaybeSizeRead.{MaybeSizeRead}
-use Rattle.definitions.specs.declared.MaybePartRead.{MaybePartRead}
 use Rattle.lengths.proofs.Booleans.{impossible}
 use Rattle.alike.specs.Without.{begins}
 use Rattle.alike.proofs.Same.{SamePart, SameMaybe}
@@ -34,25 +24,25 @@ plain key = fits false key && apart key
 -- ---- on from two answers
 
 module _ {A : Type 0} (Q : A → A → Type 0) (R : ℕ → ℕ → Type 0) where
-  on-found : (bad bad₂ : A) → Q bad bad₂ → (a b : Found) (f g : ℕ → A) → FoundAs R a b → ((i j : ℕ) → R i j → Q (f i) (g j))
+  on-found : (bad bad₂ : A) → Q bad bad₂ → (a b : Option ℕ) (f g : ℕ → A) → FoundAs R a b → ((i j : ℕ) → R i j → Q (f i) (g j))
       → Q (on_found a bad f) (on_found b bad₂ g)
-  on-found bad bad₂ w (Found.At i) (Found.At j) f g u h = h i j u
-  on-found bad bad₂ w (Found.At i) Found.Nothing f g u h = absurd u
-  on-found bad bad₂ w Found.Nothing (Found.At j) f g u h = absurd u
-  on-found bad bad₂ w Found.Nothing Found.Nothing f g u h = w
+  on-found bad bad₂ w (Some i) (Some j) f g u h = h i j u
+  on-found bad bad₂ w (Some i) None f g u h = absurd u
+  on-found bad bad₂ w None (Some j) f g u h = absurd u
+  on-found bad bad₂ w None None f g u h = w
 
 -- where nothing was read at the first, nothing is asked
 module _ {A : Type 0} (Q : A → A → Type 0) (bad : A) (w : (x : A) → Q bad x) (R : ℕ → ℕ → Type 0) where
-  on-number : (a b : NumberRead) (f g : ℕ → ℕ → A) → NumberAs R a b → ((m i j : ℕ) → R i j → Q (f m i) (g m j)) → Q (on_number a bad f) (on_number b bad g)
-  on-number NumberRead.Wrong b f g u h = w (on_number b bad g)
-  on-number (NumberRead.Is m i) NumberRead.Wrong f g u h = absurd u
-  on-number (NumberRead.Is m i) (NumberRead.Is k j) f g u h = subst (λ (y : ℕ). Q (f m i) (g y j)) u.0 (h m i j u.1)
+  on-number : (a b : Read ℕ) (f g : ℕ → ℕ → A) → NumberAs R a b → ((m i j : ℕ) → R i j → Q (f m i) (g m j)) → Q (on_read a bad f) (on_read b bad g)
+  on-number None b f g u h = w (on_read b bad g)
+  on-number (Some (m, i)) None f g u h = absurd u
+  on-number (Some (m, i)) (Some (k, j)) f g u h = subst (λ (y : ℕ). Q (f m i) (g y j)) u.0 (h m i j u.1)
 
-  on-name : (s t : Text) (a b : NameRead) (f g : Part → ℕ → A) → NameAs R s t a b
-      → ((m k : Part) (i j : ℕ) → SamePart s t m k → R i j → Q (f m i) (g k j)) → Q (on_name a bad f) (on_name b bad g)
-  on-name s t NameRead.Wrong b f g u h = w (on_name b bad g)
-  on-name s t (NameRead.Is m i) NameRead.Wrong f g u h = absurd u
-  on-name s t (NameRead.Is m i) (NameRead.Is k j) f g u h = h m k i j u.0 u.1
+  on-name : (s t : Text) (a b : Read Part) (f g : Part → ℕ → A) → NameAs R s t a b
+      → ((m k : Part) (i j : ℕ) → SamePart s t m k → R i j → Q (f m i) (g k j)) → Q (on_read a bad f) (on_read b bad g)
+  on-name s t None b f g u h = w (on_read b bad g)
+  on-name s t (Some (m, i)) None f g u h = absurd u
+  on-name s t (Some (m, i)) (Some (k, j)) f g u h = h m k i j u.0 u.1
 
 -- whether the second text has the lines `bits` of the first
 abbrev pub keeps : LeftOut → Bool
@@ -62,13 +52,13 @@ keeps LeftOut.raw = true
 keeps LeftOut.products = true
 
 -- what it states: the same as the first, or nothing
-kept_here : (out : LeftOut) (u : Text) → begins (text "bits=") u ≡ true → is_out out u ≡ false → (m : MaybeSize) → m ≡ pick (keeps out) m MaybeSize.None
+kept_here : (out : LeftOut) (u : Text) → begins (text "bits=") u ≡ true → is_out out u ≡ false → (m : Option Size) → m ≡ pick (keeps out) m None
 kept_here LeftOut.none u e f m = refl
 kept_here LeftOut.bits u e f m = impossible (cc)
 kept_here LeftOut.raw u e f m = refl
 kept_here LeftOut.products u e f m = refl
 
-pub in-none : (out : LeftOut) → MaybeSize.None ≡ pick (keeps out) MaybeSize.None MaybeSize.None
+pub in-none : (out : LeftOut) → ◌≡◌ {A = Option Size} None (pick (keeps out) None None)
 in-none LeftOut.none = refl
 in-none LeftOut.bits = refl
 in-none LeftOut.raw = refl
@@ -79,30 +69,30 @@ module _ (out : LeftOut) (s t : Text) (n : ℕ) where
   abbrev pub Beyond : ℕ → ℕ → Type 0
   Beyond = To out s t n start
 
-  abbrev BitAs : BitRead → BitRead → Type 0
-  BitAs BitRead.Wrong r = Unit {0}
-  BitAs (BitRead.Is a p) BitRead.Wrong = ⊥
-  BitAs (BitRead.Is a p) (BitRead.Is b q) = (a ≡ b) × Beyond p q
+  abbrev BitAs : Read Bool → Read Bool → Type 0
+  BitAs None r = Unit {0}
+  BitAs (Some (a, p)) None = ⊥
+  BitAs (Some (a, p)) (Some (b, q)) = (a ≡ b) × Beyond p q
 
-  abbrev ModifierAs : ModifierRead → ModifierRead → Type 0
-  ModifierAs ModifierRead.Wrong r = Unit {0}
-  ModifierAs (ModifierRead.Is a p) ModifierRead.Wrong = ⊥
-  ModifierAs (ModifierRead.Is a p) (ModifierRead.Is b q) = (a ≡ b) × Beyond p q
+  abbrev ModifierAs : Read Modifier → Read Modifier → Type 0
+  ModifierAs None r = Unit {0}
+  ModifierAs (Some (a, p)) None = ⊥
+  ModifierAs (Some (a, p)) (Some (b, q)) = (a ≡ b) × Beyond p q
 
-  abbrev MaybeNumberAs : MaybeNumberRead → MaybeNumberRead → Type 0
-  MaybeNumberAs MaybeNumberRead.Wrong r = Unit {0}
-  MaybeNumberAs (MaybeNumberRead.Is a p) MaybeNumberRead.Wrong = ⊥
-  MaybeNumberAs (MaybeNumberRead.Is a p) (MaybeNumberRead.Is b q) = (a ≡ b) × Beyond p q
+  abbrev MaybeNumberAs : Read (Option ℕ) → Read (Option ℕ) → Type 0
+  MaybeNumberAs None r = Unit {0}
+  MaybeNumberAs (Some (a, p)) None = ⊥
+  MaybeNumberAs (Some (a, p)) (Some (b, q)) = (a ≡ b) × Beyond p q
 
-  abbrev MaybePartAs : MaybePartRead → MaybePartRead → Type 0
-  MaybePartAs MaybePartRead.Wrong r = Unit {0}
-  MaybePartAs (MaybePartRead.Is a p) MaybePartRead.Wrong = ⊥
-  MaybePartAs (MaybePartRead.Is a p) (MaybePartRead.Is b q) = SameMaybe s t a b × Beyond p q
+  abbrev MaybePartAs : Read (Option Part) → Read (Option Part) → Type 0
+  MaybePartAs None r = Unit {0}
+  MaybePartAs (Some (a, p)) None = ⊥
+  MaybePartAs (Some (a, p)) (Some (b, q)) = SameMaybe s t a b × Beyond p q
 
-  abbrev MaybeSizeAs : MaybeSizeRead → MaybeSizeRead → Type 0
-  MaybeSizeAs MaybeSizeRead.Wrong r = Unit {0}
-  MaybeSizeAs (MaybeSizeRead.Is a p) MaybeSizeRead.Wrong = ⊥
-  MaybeSizeAs (MaybeSizeRead.Is a p) (MaybeSizeRead.Is b q) = (b ≡ pick (keeps out) a MaybeSize.None) × Beyond p q
+  abbrev MaybeSizeAs : Read (Option Size) → Read (Option Size) → Type 0
+  MaybeSizeAs None r = Unit {0}
+  MaybeSizeAs (Some (a, p)) None = ⊥
+  MaybeSizeAs (Some (a, p)) (Some (b, q)) = (b ≡ pick (keeps out) a None) × Beyond p q
 
   -- ---- a line's key, and the value under it
 
@@ -115,7 +105,7 @@ module _ (out : LeftOut) (s t : Text) (n : ℕ) where
             on-found Q (To out s t n inside) bad bad (w bad) (key_at s p key) (key_at t q key) f g
             (key-there out s t n false key p q (both (fits false key) (apart key) c).0 (record { rests = r; less = k.less })) h
         by (cut e r) =
-            subst (λ (a : Found). Q (on_found a bad f) (on_found (key_at t q key) bad g))
+            subst (λ (a : Option ℕ). Q (on_found a bad f) (on_found (key_at t q key) bad g))
             (sym (other_key out s p key (both (fits false key) (apart key) c).1 e)) (w (on_found (key_at t q key) bad g))
 
   -- the alternatives of a value: a line's end that is found or not at both
@@ -126,54 +116,50 @@ module _ (out : LeftOut) (s t : Text) (n : ℕ) where
 
   module _ (p q : ℕ) (key : Text) (c : plain key ≡ true) (k : Beyond p q) where
     number-line : NumberAs Beyond (number_line s p key) (number_line t q key)
-    unfolding number_line
-    number-line = on-key (NumberAs Beyond) NumberRead.Wrong (λ x. tt) p q key c k _ _ (number-there out s t n)
+    number-line = on-key (NumberAs Beyond) None (λ x. tt) p q key c k _ _ (number-there out s t n)
 
     name-line : NameAs Beyond s t (name_line s p key) (name_line t q key)
     unfolding name_line
-    name-line = on-key (NameAs Beyond s t) NameRead.Wrong (λ x. tt) p q key c k _ _ (name-there out s t n)
+    name-line = on-key (NameAs Beyond s t) None (λ x. tt) p q key c k _ _ (name-there out s t n)
 
     bit-line : BitAs (bit_line s p key) (bit_line t q key)
-    unfolding bit_line
     bit-line =
-        on-key BitAs BitRead.Wrong (λ x. tt) p q key c k _ _ λ i j h.
-        on-end BitAs i j (text "0\n") refl h _ _ _ _ (on-end BitAs i j (text "1\n") refl h BitRead.Wrong BitRead.Wrong _ _ tt λ x y u. (refl, u))
+        on-key BitAs None (λ x. tt) p q key c k _ _ λ i j h.
+        on-end BitAs i j (text "0\n") refl h _ _ _ _ (on-end BitAs i j (text "1\n") refl h None None _ _ tt λ x y u. (refl, u))
         λ x y u. (refl, u)
 
     maybe-number-line : MaybeNumberAs (maybe_number_line s p key) (maybe_number_line t q key)
-    unfolding maybe_number_line
     maybe-number-line =
-        on-key MaybeNumberAs MaybeNumberRead.Wrong (λ x. tt) p q key c k _ _ λ i j h.
+        on-key MaybeNumberAs None (λ x. tt) p q key c k _ _ λ i j h.
         on-end MaybeNumberAs i j (text "-\n") refl h _ _ _ _
-        (on-number MaybeNumberAs MaybeNumberRead.Wrong (λ x. tt) Beyond (number_at s i) (number_at t j) _ _ (number-there out s t n i j h)
+        (on-number MaybeNumberAs None (λ x. tt) Beyond (number_at s i) (number_at t j) _ _ (number-there out s t n i j h)
         λ m x y u. (refl, u))
         λ x y u. (refl, u)
 
     maybe-name-line : MaybePartAs (maybe_name_line s p key) (maybe_name_line t q key)
     unfolding maybe_name_line
     maybe-name-line =
-        on-key MaybePartAs MaybePartRead.Wrong (λ x. tt) p q key c k _ _ λ i j h.
+        on-key MaybePartAs None (λ x. tt) p q key c k _ _ λ i j h.
         on-end MaybePartAs i j (text "-\n") refl h _ _ _ _
-        (on-name MaybePartAs MaybePartRead.Wrong (λ x. tt) Beyond s t (name_at s i) (name_at t j) _ _ (name-there out s t n i j h)
+        (on-name MaybePartAs None (λ x. tt) Beyond s t (name_at s i) (name_at t j) _ _ (name-there out s t n i j h)
         λ a b x y e u. (SameMaybe.some e, u))
         λ x y u. (SameMaybe.none, u)
 
     modifier-line : ModifierAs (modifier_line s p key) (modifier_line t q key)
-    unfolding modifier_line
     modifier-line =
-        on-key ModifierAs ModifierRead.Wrong (λ x. tt) p q key c k _ _ λ i j h.
+        on-key ModifierAs None (λ x. tt) p q key c k _ _ λ i j h.
         on-end ModifierAs i j (text "-\n") refl h _ _ _ _
         (on-found ModifierAs (To out s t n inside) _ _
-        (on-found ModifierAs (To out s t n inside) ModifierRead.Wrong ModifierRead.Wrong tt (key_at s i (text "+")) (key_at t j (text "+")) _ _
+        (on-found ModifierAs (To out s t n inside) None None tt (key_at s i (text "+")) (key_at t j (text "+")) _ _
         (key-there out s t n false (text "+") i j refl h) (signed Modifier.Plus))
         (key_at s i (text "-")) (key_at t j (text "-")) _ _ (key-there out s t n false (text "-") i j refl h) (signed Modifier.Minus))
         λ x y u. (refl, u)
       where
         signed : (sign : ℕ → Modifier) (i j : ℕ) → To out s t n inside i j
-            → ModifierAs (on_number (number_at s i) ModifierRead.Wrong λ m x. ModifierRead.Is (sign m) x)
-            (on_number (number_at t j) ModifierRead.Wrong λ m x. ModifierRead.Is (sign m) x)
+            → ModifierAs (on_read (number_at s i) None λ m x. Some (sign m, x))
+            (on_read (number_at t j) None λ m x. Some (sign m, x))
         signed sign i j h =
-            on-number ModifierAs ModifierRead.Wrong (λ x. tt) Beyond (number_at s i) (number_at t j) _ _ (number-there out s t n i j h)
+            on-number ModifierAs None (λ x. tt) Beyond (number_at s i) (number_at t j) _ _ (number-there out s t n i j h)
             λ m x y u. (refl, u)
 
   -- ---- a line of one word
@@ -190,119 +176,118 @@ module _ (out : LeftOut) (s t : Text) (n : ℕ) where
   module _ {A : Type 0} (Q : A → A → Type 0) (bad : A) (w : (x : A) → Q bad x) (p q : ℕ) (k : Beyond p q) where
     module _ (key : Text) (c : plain key ≡ true) where
       pub then-number : (f g : ℕ → ℕ → A) → ((m i j : ℕ) → Beyond i j → Q (f m i) (g m j))
-          → Q (on_number (number_line s p key) bad f) (on_number (number_line t q key) bad g)
+          → Q (on_read (number_line s p key) bad f) (on_read (number_line t q key) bad g)
       then-number f g h = on-number Q bad w Beyond (number_line s p key) (number_line t q key) f g (number-line p q key c k) h
 
       pub then-name : (f g : Part → ℕ → A) → ((a b : Part) (i j : ℕ) → SamePart s t a b → Beyond i j → Q (f a i) (g b j))
-          → Q (on_name (name_line s p key) bad f) (on_name (name_line t q key) bad g)
+          → Q (on_read (name_line s p key) bad f) (on_read (name_line t q key) bad g)
       then-name f g h = on-name Q bad w Beyond s t (name_line s p key) (name_line t q key) f g (name-line p q key c k) h
 
       pub then-bit : (f g : Bool → ℕ → A) → ((m : Bool) (i j : ℕ) → Beyond i j → Q (f m i) (g m j))
-          → Q (on_bit (bit_line s p key) bad f) (on_bit (bit_line t q key) bad g)
+          → Q (on_read (bit_line s p key) bad f) (on_read (bit_line t q key) bad g)
       then-bit f g h = by (bit_line s p key) (bit_line t q key) (bit-line p q key c k)
         where
-          by : (a b : BitRead) → BitAs a b → Q (on_bit a bad f) (on_bit b bad g)
-          by BitRead.Wrong b u = w (on_bit b bad g)
-          by (BitRead.Is m i) BitRead.Wrong u = absurd u
-          by (BitRead.Is m i) (BitRead.Is o j) u = subst (λ (y : Bool). Q (f m i) (g y j)) u.0 (h m i j u.1)
+          by : (a b : Read Bool) → BitAs a b → Q (on_read a bad f) (on_read b bad g)
+          by None b u = w (on_read b bad g)
+          by (Some (m, i)) None u = absurd u
+          by (Some (m, i)) (Some (o, j)) u = subst (λ (y : Bool). Q (f m i) (g y j)) u.0 (h m i j u.1)
 
       pub then-modifier : (f g : Modifier → ℕ → A) → ((m : Modifier) (i j : ℕ) → Beyond i j → Q (f m i) (g m j))
-          → Q (on_modifier (modifier_line s p key) bad f) (on_modifier (modifier_line t q key) bad g)
+          → Q (on_read (modifier_line s p key) bad f) (on_read (modifier_line t q key) bad g)
       then-modifier f g h = by (modifier_line s p key) (modifier_line t q key) (modifier-line p q key c k)
         where
-          by : (a b : ModifierRead) → ModifierAs a b → Q (on_modifier a bad f) (on_modifier b bad g)
-          by ModifierRead.Wrong b u = w (on_modifier b bad g)
-          by (ModifierRead.Is m i) ModifierRead.Wrong u = absurd u
-          by (ModifierRead.Is m i) (ModifierRead.Is o j) u = subst (λ (y : Modifier). Q (f m i) (g y j)) u.0 (h m i j u.1)
+          by : (a b : Read Modifier) → ModifierAs a b → Q (on_read a bad f) (on_read b bad g)
+          by None b u = w (on_read b bad g)
+          by (Some (m, i)) None u = absurd u
+          by (Some (m, i)) (Some (o, j)) u = subst (λ (y : Modifier). Q (f m i) (g y j)) u.0 (h m i j u.1)
 
-      pub then-maybe-number : (f g : MaybeNumber → ℕ → A) → ((m : MaybeNumber) (i j : ℕ) → Beyond i j → Q (f m i) (g m j))
-          → Q (on_maybe_number (maybe_number_line s p key) bad f) (on_maybe_number (maybe_number_line t q key) bad g)
+      pub then-maybe-number : (f g : Option ℕ → ℕ → A) → ((m : Option ℕ) (i j : ℕ) → Beyond i j → Q (f m i) (g m j))
+          → Q (on_read (maybe_number_line s p key) bad f) (on_read (maybe_number_line t q key) bad g)
       then-maybe-number f g h = by (maybe_number_line s p key) (maybe_number_line t q key) (maybe-number-line p q key c k)
         where
-          by : (a b : MaybeNumberRead) → MaybeNumberAs a b → Q (on_maybe_number a bad f) (on_maybe_number b bad g)
-          by MaybeNumberRead.Wrong b u = w (on_maybe_number b bad g)
-          by (MaybeNumberRead.Is m i) MaybeNumberRead.Wrong u = absurd u
-          by (MaybeNumberRead.Is m i) (MaybeNumberRead.Is o j) u = subst (λ (y : MaybeNumber). Q (f m i) (g y j)) u.0 (h m i j u.1)
+          by : (a b : Read (Option ℕ)) → MaybeNumberAs a b → Q (on_read a bad f) (on_read b bad g)
+          by None b u = w (on_read b bad g)
+          by (Some (m, i)) None u = absurd u
+          by (Some (m, i)) (Some (o, j)) u = subst (λ (y : Option ℕ). Q (f m i) (g y j)) u.0 (h m i j u.1)
 
-      pub then-maybe-name : (f g : MaybePart → ℕ → A) → ((a b : MaybePart) (i j : ℕ) → SameMaybe s t a b → Beyond i j → Q (f a i) (g b j))
-          → Q (on_maybe_part (maybe_name_line s p key) bad f) (on_maybe_part (maybe_name_line t q key) bad g)
+      pub then-maybe-name : (f g : Option Part → ℕ → A) → ((a b : Option Part) (i j : ℕ) → SameMaybe s t a b → Beyond i j → Q (f a i) (g b j))
+          → Q (on_read (maybe_name_line s p key) bad f) (on_read (maybe_name_line t q key) bad g)
       then-maybe-name f g h = by (maybe_name_line s p key) (maybe_name_line t q key) (maybe-name-line p q key c k)
         where
-          by : (a b : MaybePartRead) → MaybePartAs a b → Q (on_maybe_part a bad f) (on_maybe_part b bad g)
-          by MaybePartRead.Wrong b u = w (on_maybe_part b bad g)
-          by (MaybePartRead.Is m i) MaybePartRead.Wrong u = absurd u
-          by (MaybePartRead.Is m i) (MaybePartRead.Is o j) u = h m o i j u.0 u.1
+          by : (a b : Read (Option Part)) → MaybePartAs a b → Q (on_read a bad f) (on_read b bad g)
+          by None b u = w (on_read b bad g)
+          by (Some (m, i)) None u = absurd u
+          by (Some (m, i)) (Some (o, j)) u = h m o i j u.0 u.1
 
 -- ---- the line `bits`: both read it, or the second leaves it out
 
 module _ (out : LeftOut) (s t : Text) (n p q : ℕ) (k : Beyond out s t n p q) where
   -- both
-  stated : ((m : MaybeSize) → m ≡ pick (keeps out) m MaybeSize.None) → (i j : ℕ) → To out s t n inside i j
+  stated : ((m : Option Size) → m ≡ pick (keeps out) m None) → (i j : ℕ) → To out s t n inside i j
       → MaybeSizeAs out s t n (stated_at s i) (stated_at t j)
   stated given i j h =
       on-end out s t n (MaybeSizeAs out s t n) i j (text "dynamic\n") refl h _ _ _ _
       (on-end out s t n (MaybeSizeAs out s t n) i j (text "unknown\n") refl h _ _ _ _
-      (on-number (MaybeSizeAs out s t n) MaybeSizeRead.Wrong (λ x. tt) (Beyond out s t n) (number_at s i) (number_at t j) _ _ (number-there out s t n i j h)
-      λ m x y u. (given (MaybeSize.Some (Size.Static m)), u))
-      λ x y u. (given (MaybeSize.Some Size.Unknown), u))
-      λ x y u. (given (MaybeSize.Some Size.Dynamic), u)
+      (on-number (MaybeSizeAs out s t n) None (λ x. tt) (Beyond out s t n) (number_at s i) (number_at t j) _ _ (number-there out s t n i j h)
+      λ m x y u. (given (Some (Size.Static m)), u))
+      λ x y u. (given (Some Size.Unknown), u))
+      λ x y u. (given (Some Size.Dynamic), u)
 
-  here : (a : Found) → key_at s p (text "bits=") ≡ a → is_out out (drop p s) ≡ false → (b : Found) → FoundAs (To out s t n inside) a b
-      → MaybeSizeAs out s t n (on_found a (MaybeSizeRead.Is MaybeSize.None p) λ i. stated_at s i)
-      (on_found b (MaybeSizeRead.Is MaybeSize.None q) λ i. stated_at t i)
-  here (Found.At i) e f (Found.At j) u =
+  here : (a : Option ℕ) → key_at s p (text "bits=") ≡ a → is_out out (drop p s) ≡ false → (b : Option ℕ) → FoundAs (To out s t n inside) a b
+      → MaybeSizeAs out s t n (on_found a (Some (None, p)) λ i. stated_at s i)
+      (on_found b (Some (None, q)) λ i. stated_at t i)
+  here (Some i) e f (Some j) u =
       let c : begins (text "bits=") (drop p s) ≡ true = cc (key-begins s p (text "bits=")) in
       stated (kept_here out (drop p s) c f) i j u
-  here (Found.At i) e f Found.Nothing u = absurd u
-  here Found.Nothing e f (Found.At j) u = absurd u
-  here Found.Nothing e f Found.Nothing u = (in-none out, k)
+  here (Some i) e f None u = absurd u
+  here None e f (Some j) u = absurd u
+  here None e f None u = (in-none out, k)
 
 -- only the first
 module _ (s t : Text) (n p q : ℕ) (k : Beyond LeftOut.bits s t n p q) where
   from : (i : ℕ) → From LeftOut.bits s (drop q t) start i → Beyond LeftOut.bits s t n i q
   from i r = record { rests = r; less = k.less }
 
-  left : (i : ℕ) → From LeftOut.bits s (drop q t) away i → MaybeSizeAs LeftOut.bits s t n (stated_at s i) (MaybeSizeRead.Is MaybeSize.None q)
+  left : (i : ℕ) → From LeftOut.bits s (drop q t) away i → MaybeSizeAs LeftOut.bits s t n (stated_at s i) (Some (None, q))
   left i r =
       ended (text "dynamic\n") refl _ _
       (ended (text "unknown\n") refl _ _ (number (number_at s i) (number-left LeftOut.bits s (drop q t) i r)) λ x u. (refl, from x u))
       λ x u. (refl, from x u)
     where
-      AsNone : MaybeSizeRead → Type 0
-      AsNone a = MaybeSizeAs LeftOut.bits s t n a (MaybeSizeRead.Is MaybeSize.None q)
+      AsNone : Read (Option Size) → Type 0
+      AsNone a = MaybeSizeAs LeftOut.bits s t n a (Some (None, q))
 
-      ended : (key : Text) → fits true key ≡ true → (bad : MaybeSizeRead) (f : ℕ → MaybeSizeRead) → AsNone bad
+      ended : (key : Text) → fits true key ≡ true → (bad : Read (Option Size)) (f : ℕ → Read (Option Size)) → AsNone bad
           → ((x : ℕ) → From LeftOut.bits s (drop q t) start x → AsNone (f x)) → AsNone (on_found (key_at s i key) bad f)
       ended key c bad f w h = by (key_at s i key) (key_left LeftOut.bits s (drop q t) true key i c r)
         where
-          by : (a : Found) → FoundOn (From LeftOut.bits s (drop q t) start) a → AsNone (on_found a bad f)
-          by (Found.At x) u = h x u
-          by Found.Nothing u = w
+          by : (a : Option ℕ) → FoundOn (From LeftOut.bits s (drop q t) start) a → AsNone (on_found a bad f)
+          by (Some x) u = h x u
+          by None u = w
 
-      number : (a : NumberRead) → NumberOn (From LeftOut.bits s (drop q t) start) a
-          → AsNone (on_number a MaybeSizeRead.Wrong λ m x. MaybeSizeRead.Is (MaybeSize.Some (Size.Static m)) x)
-      number (NumberRead.Is m x) u = (refl, from x u)
-      number NumberRead.Wrong u = tt
+      number : (a : Read ℕ) → NumberOn (From LeftOut.bits s (drop q t) start) a
+          → AsNone (on_read a None λ m x. Some (Some (Size.Static m), x))
+      number (Some (m, x)) u = (refl, from x u)
+      number None u = tt
 
-  first-only : (a : Found) → key_at s p (text "bits=") ≡ a → begins (text "bits=") (drop p s) ≡ true → FoundOn (From LeftOut.bits s (drop q t) away) a
-      → (b : Found) → key_at t q (text "bits=") ≡ b
-      → MaybeSizeAs LeftOut.bits s t n (on_found a (MaybeSizeRead.Is MaybeSize.None p) λ i. stated_at s i)
-      (on_found b (MaybeSizeRead.Is MaybeSize.None q) λ i. stated_at t i)
-  first-only (Found.At i) f e u Found.Nothing g = left i u
-  first-only Found.Nothing f e u b g = impossible (cc (key-begins s p (text "bits=")))
-  first-only (Found.At i) f e u (Found.At j) g = impossible (cc (key-begins t q (text "bits="), cleaned k.rests))
+  first-only : (a : Option ℕ) → key_at s p (text "bits=") ≡ a → begins (text "bits=") (drop p s) ≡ true → FoundOn (From LeftOut.bits s (drop q t) away) a
+      → (b : Option ℕ) → key_at t q (text "bits=") ≡ b
+      → MaybeSizeAs LeftOut.bits s t n (on_found a (Some (None, p)) λ i. stated_at s i)
+      (on_found b (Some (None, q)) λ i. stated_at t i)
+  first-only (Some i) f e u None g = left i u
+  first-only None f e u b g = impossible (cc (key-begins s p (text "bits=")))
+  first-only (Some i) f e u (Some j) g = impossible (cc (key-begins t q (text "bits="), cleaned k.rests))
 
 -- or a line of another key stands in its place, and the second text leaves that out
 abbrev Instead : LeftOut → Text → ℕ → Type 0
-Instead out s p = (is_out out (drop p s) ≡ true) × (bits_line s p ≡ MaybeSizeRead.Is MaybeSize.None p)
+Instead out s p = (is_out out (drop p s) ≡ true) × (bits_line s p ≡ Some (None, p))
 
 bits-line : (out : LeftOut) (s t : Text) (n p q : ℕ) → Beyond out s t n p q → Instead out s p ⊎ MaybeSizeAs out s t n (bits_line s p) (bits_line t q)
-unfolding bits_line
 bits-line out s t n p q k = by k.rests
   where
     instead : (o : LeftOut) → apart_from o (text "bits=") ≡ true → is_out o (drop p s) ≡ true → Instead o s p
     instead o d e =
-        (e, ap (λ (a : Found). on_found a (MaybeSizeRead.Is MaybeSize.None p) λ i. stated_at s i) (key_apart o s p (text "bits=") d e))
+        (e, ap (λ (a : Option ℕ). on_found a (Some (None, p)) λ i. stated_at s i) (key_apart o s p (text "bits=") d e))
 
     gone : (o : LeftOut) → Beyond o s t n p q → is_out o (drop p s) ≡ true → Rests o away (drop p s) (drop q t)
         → Instead o s p ⊎ MaybeSizeAs o s t n (bits_line s p) (bits_line t q)
@@ -321,16 +306,16 @@ bits-line out s t n p q k = by k.rests
 
 module _ (out : LeftOut) (s t : Text) (n : ℕ) {A : Type 0} (Q : A → A → Type 0) (bad : A) (w : (x : A) → Q bad x) (p q : ℕ) (k : Beyond out s t n p q) where
   -- where a line that is left out stands in the place of `bits`, nothing is known of the second text
-  pub then-bits : (f g : MaybeSize → ℕ → A) → ((x : A) → is_out out (drop p s) ≡ true → Q (f MaybeSize.None p) x)
-      → ((a b : MaybeSize) (i j : ℕ) → b ≡ pick (keeps out) a MaybeSize.None → Beyond out s t n i j → Q (f a i) (g b j))
-      → Q (on_maybe_size (bits_line s p) bad f) (on_maybe_size (bits_line t q) bad g)
+  pub then-bits : (f g : Option Size → ℕ → A) → ((x : A) → is_out out (drop p s) ≡ true → Q (f None p) x)
+      → ((a b : Option Size) (i j : ℕ) → b ≡ pick (keeps out) a None → Beyond out s t n i j → Q (f a i) (g b j))
+      → Q (on_read (bits_line s p) bad f) (on_read (bits_line t q) bad g)
   then-bits f g z h = by (bits-line out s t n p q k)
     where
-      both_read : (a b : MaybeSizeRead) → MaybeSizeAs out s t n a b → Q (on_maybe_size a bad f) (on_maybe_size b bad g)
-      both_read MaybeSizeRead.Wrong b u = w (on_maybe_size b bad g)
-      both_read (MaybeSizeRead.Is m i) MaybeSizeRead.Wrong u = absurd u
-      both_read (MaybeSizeRead.Is m i) (MaybeSizeRead.Is o j) u = h m o i j u.0 u.1
+      both_read : (a b : Read (Option Size)) → MaybeSizeAs out s t n a b → Q (on_read a bad f) (on_read b bad g)
+      both_read None b u = w (on_read b bad g)
+      both_read (Some (m, i)) None u = absurd u
+      both_read (Some (m, i)) (Some (o, j)) u = h m o i j u.0 u.1
 
-      by : Instead out s p ⊎ MaybeSizeAs out s t n (bits_line s p) (bits_line t q) → Q (on_maybe_size (bits_line s p) bad f) (on_maybe_size (bits_line t q) bad g)
-      by (inl e) = rw e.1 (z (on_maybe_size (bits_line t q) bad g) e.0)
+      by : Instead out s p ⊎ MaybeSizeAs out s t n (bits_line s p) (bits_line t q) → Q (on_read (bits_line s p) bad f) (on_read (bits_line t q) bad g)
+      by (inl e) = rw e.1 (z (on_read (bits_line t q) bad g) e.0)
       by (inr u) = both_read (bits_line s p) (bits_line t q) u

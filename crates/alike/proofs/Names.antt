@@ -1,5 +1,6 @@
 -- Names that are the same text pass the same tests: of one name against another, of a payload's name, and of what a field names.
 -- Assumes nothing.
+use Rattle.std.specs.Prelude.{Option, Some, None}
 use mathlib.Core.Path.{◌≡◌, refl}
 use mathlib.Core.List.{List}
 use mathlib.Core.Bool.{Bool, ◌||◌}
@@ -37,11 +38,11 @@ module _ (s t : Text) where
 
   -- ---- what a field names
 
-  pub data SameReference : Reference → Reference → Type 0 where
-    none : SameReference Reference.None Reference.None
-    size : {a b : Part} {width : ℕ} → SamePart s t a b → SameReference (Reference.Size a width) (Reference.Size b width)
-    count : {a b : Part} → SamePart s t a b → SameReference (Reference.Count a) (Reference.Count b)
-    element_size : {a b : Part} → SamePart s t a b → SameReference (Reference.ElementSize a) (Reference.ElementSize b)
+  pub data SameReference : Option Reference → Option Reference → Type 0 where
+    none : SameReference None None
+    size : {a b : Part} {width : ℕ} → SamePart s t a b → SameReference (Some (Reference.Size a width)) (Some (Reference.Size b width))
+    count : {a b : Part} → SamePart s t a b → SameReference (Some (Reference.Count a)) (Some (Reference.Count b))
+    element_size : {a b : Part} → SamePart s t a b → SameReference (Some (Reference.ElementSize a)) (Some (Reference.ElementSize b))
 
   pub same-reference : {d e : FieldDesc} → SameDesc s t d e → SameReference (reference d) (reference e)
   same-reference (SameDesc.checksum p) = SameReference.none
@@ -59,25 +60,25 @@ module _ (s t : Text) where
   same-reference (SameDesc.flag p) = SameReference.none
   same-reference (SameDesc.typedef p q) = SameReference.none
 
-  same-payload-size : {r q : Reference} → SameReference r q → is_payload_size s r ≡ is_payload_size t q
+  same-payload-size : {r q : Option Reference} → SameReference r q → is_payload_size s r ≡ is_payload_size t q
   same-payload-size SameReference.none = refl
   same-payload-size (SameReference.size {a} {b} p) = same-payload-id a b p
   same-payload-size (SameReference.count p) = refl
   same-payload-size (SameReference.element_size p) = refl
 
-  same-array-size : (id jd : Part) → SamePart s t id jd → {r q : Reference} → SameReference r q → is_array_size s id r ≡ is_array_size t jd q
+  same-array-size : (id jd : Part) → SamePart s t id jd → {r q : Option Reference} → SameReference r q → is_array_size s id r ≡ is_array_size t jd q
   same-array-size id jd k SameReference.none = refl
   same-array-size id jd k (SameReference.size {a} {b} p) = same-name a b id jd p k
   same-array-size id jd k (SameReference.count {a} {b} p) = same-name a b id jd p k
   same-array-size id jd k (SameReference.element_size p) = refl
 
-  same-element-size : (id jd : Part) → SamePart s t id jd → {r q : Reference} → SameReference r q → is_element_size s id r ≡ is_element_size t jd q
+  same-element-size : (id jd : Part) → SamePart s t id jd → {r q : Option Reference} → SameReference r q → is_element_size s id r ≡ is_element_size t jd q
   same-element-size id jd k SameReference.none = refl
   same-element-size id jd k (SameReference.size p) = refl
   same-element-size id jd k (SameReference.count p) = refl
   same-element-size id jd k (SameReference.element_size {a} {b} p) = same-name a b id jd p k
 
-  any-reference : (f g : Reference → Bool) → ((r q : Reference) → SameReference r q → f r ≡ g q)
+  any-reference : (f g : Option Reference → Bool) → ((r q : Option Reference) → SameReference r q → f r ≡ g q)
       → {fs gs : List Field} → SameFields s t fs gs → any_reference f fs ≡ any_reference g gs
   any-reference f g h ks =
       any_field (λ (x : Field). f (reference x.desc)) (λ (x : Field). g (reference x.desc)) (λ x y k. h _ _ (same-reference k.desc)) ks

@@ -1,5 +1,6 @@
 -- Records that say the same are lowered alike: the parser's blocks hold texts, so of related settings and fields each step is one and the same.
 -- Assumes nothing.
+use Rattle.std.specs.Prelude.{Option, Some, None}
 use mathlib.Core.Path.{◌≡◌, refl, ap, ◌∙◌}
 use mathlib.Core.List.{List, [], ◌∷◌}
 use mathlib.Core.Bool.{Bool, true, false}
@@ -10,16 +11,14 @@ use Rattle.definitions.specs.Blocks.{Bit, Chunk}
 use Rattle.definitions.specs.FieldParser.{Setting, FieldParser, Step, go, stop, and_then, new, flushed, check_code, member, field_name, is_cond_of, is_cond_for, kind_of, bit_of, parse_bit_field, Emit, appends, is_array_field, later_size, trailing_from, get_trailing_size, on_trailing, typedef_block, typedef_by_size, parse_typedef_field, optional_typedef, parse_optional_field, payload_name, unsized_payload, payload_by_size, parse_payload_field_lite, size_bits, size_backing, elem_of, type_name, array_of, parse_array_field, parse_other, is_bit, parse_unchecked, emitted, parse, parse_all, Outcome, code_of, lower_fields}
 use Rattle.definitions.specs.Answer.{setting_of, lower_target, lower_in}
 use Rattle.definitions.specs.All.{Outcomes, with_section, lower_each}
-use Rattle.definitions.specs.declared.EnumOf.{EnumOf}
+use Rattle.definitions.specs.declared.EnumKind.{EnumKind}
 use Rattle.definitions.specs.declared.Part.{Part}
-use Rattle.definitions.specs.declared.MaybePart.{MaybePart}
-use Rattle.definitions.specs.declared.MaybeNumber.{MaybeNumber}
 use Rattle.definitions.specs.declared.Modifier.{Modifier}
 use Rattle.definitions.specs.declared.Options.{Options}
 use Rattle.definitions.specs.declared.Trailing.{Trailing}
 use Rattle.definitions.specs.declared.Head.{Head}
 use Rattle.definitions.specs.declared.FieldDesc.{FieldDesc}
-use Rattle.definitions.specs.declared.Cond.{Cond}
+use Rattle.definitions.specs.declared.Condition.{Condition}
 use Rattle.definitions.specs.declared.Field.{Field}
 use Rattle.definitions.specs.declared.Size.{Size}
 use Rattle.definitions.specs.declared.Reference.{Reference}
@@ -43,12 +42,12 @@ and-then x y f g e h = ap (λ (z : Step). and_then z f) e ∙ by y
     by (go q) = h q
     by (stop why) = refl
 
-on-trailing : (m n : MaybeNumber) (f g : ℕ → Emit) → m ≡ n → ((bits : ℕ) → f bits ≡ g bits) → on_trailing m f ≡ on_trailing n g
-on-trailing m n f g e h = ap (λ (x : MaybeNumber). on_trailing x f) e ∙ by n
+on-trailing : (m n : Option ℕ) (f g : ℕ → Emit) → m ≡ n → ((bits : ℕ) → f bits ≡ g bits) → on_trailing m f ≡ on_trailing n g
+on-trailing m n f g e h = ap (λ (x : Option ℕ). on_trailing x f) e ∙ by n
   where
-    by : (x : MaybeNumber) → on_trailing x f ≡ on_trailing x g
-    by MaybeNumber.None = refl
-    by (MaybeNumber.Some bits) = h bits
+    by : (x : Option ℕ) → on_trailing x f ≡ on_trailing x g
+    by None = refl
+    by (Some bits) = h bits
 
 -- ---- of related settings
 
@@ -80,7 +79,7 @@ module _ (c d : Setting) (same : SameSetting c d) where
   unfolding is_cond_for
   is-cond-for a b p = any_field s t _ _ (λ f g h. by h.cond) same.fields
     where
-      by : {x y : Cond} → SameCond s t x y → is_cond_of s a x ≡ is_cond_of t b y
+      by : {x y : Option Condition} → SameCond s t x y → is_cond_of s a x ≡ is_cond_of t b y
       by SameCond.none = refl
       by (SameCond.some {a = m} {b = n} q) = same-name s t m n a b q p
 
@@ -118,10 +117,10 @@ module _ (c d : Setting) (same : SameSetting c d) where
   is-array-field : (f g : Field) → SameField s t f g → is_array_field f ≡ is_array_field g
   is-array-field f g h = by h.cond
     where
-      by : {x y : Cond} → SameCond s t x y
+      by : {x y : Option Condition} → SameCond s t x y
           → ◌≡◌ {A = Bool}
-          (elim x [ Cond.None ↦ is_array f.desc | Cond.Some id value ↦ false ])
-          (elim y [ Cond.None ↦ is_array g.desc | Cond.Some id value ↦ false ])
+          (elim x [ None ↦ is_array f.desc | Some cond ↦ false ])
+          (elim y [ None ↦ is_array g.desc | Some cond ↦ false ])
       by SameCond.none = is-array s t h.desc
       by (SameCond.some p) = refl
 
@@ -136,9 +135,9 @@ module _ (c d : Setting) (same : SameSetting c d) where
   trailing-from m sum (SameAnnotateds.more {a} {b} {xs} {ys} k ks) = by (later_size m a) (later_size m b) (later-size m a b k) (λ n. trailing-from m n ks)
     where
       by : (x y : Size) → x ≡ y → ((n : ℕ) → trailing_from m n xs ≡ trailing_from m n ys)
-          → ◌≡◌ {A = MaybeNumber}
-          (elim x [ Size.Static bits ↦ trailing_from m (sum + bits) xs | Size.Dynamic ↦ MaybeNumber.None | Size.Unknown ↦ MaybeNumber.None ])
-          (elim y [ Size.Static bits ↦ trailing_from m (sum + bits) ys | Size.Dynamic ↦ MaybeNumber.None | Size.Unknown ↦ MaybeNumber.None ])
+          → ◌≡◌ {A = Option ℕ}
+          (elim x [ Size.Static bits ↦ trailing_from m (sum + bits) xs | Size.Dynamic ↦ None | Size.Unknown ↦ None ])
+          (elim y [ Size.Static bits ↦ trailing_from m (sum + bits) ys | Size.Dynamic ↦ None | Size.Unknown ↦ None ])
       by (Size.Static n) y e h = rw (← e) (h (sum + n))
       by Size.Dynamic y e h = rw (← e)
       by Size.Unknown y e h = rw (← e)
@@ -180,10 +179,10 @@ module _ (c d : Setting) (same : SameSetting c d) where
 
   -- ---- optional fields
 
-  optional-typedef : (value : ℕ) (i j a b m n : Part) → SamePart s t i j → SamePart s t a b → SamePart s t m n → (x : EnumOf)
+  optional-typedef : (value : ℕ) (i j a b m n : Part) → SamePart s t i j → SamePart s t a b → SamePart s t m n → (x : Option EnumKind)
       → optional_typedef c i value a m x ≡ optional_typedef d j value b n x
-  optional-typedef value i j a b m n o p q (EnumOf.Enum width is_open is_complete) = cc (same-order, same-member a b p)
-  optional-typedef value i j a b m n o p q EnumOf.None = cc (same-member a b p)
+  optional-typedef value i j a b m n o p q (Some kind) = cc (same-order, same-member a b p)
+  optional-typedef value i j a b m n o p q None = cc (same-member a b p)
 
   parse-optional : (i j : Part) (value : ℕ) → SamePart s t i j → {x y : FieldDesc} → SameDesc s t x y
       → parse_optional_field c i value x ≡ parse_optional_field d j value y
@@ -206,7 +205,7 @@ module _ (c d : Setting) (same : SameSetting c d) where
 
   -- ---- arrays
 
-  size-bits : (a b : Part) → SamePart s t a b → {r q : Reference} → SameReference s t r q → size_bits s a r ≡ size_bits t b q
+  size-bits : (a b : Part) → SamePart s t a b → {r q : Option Reference} → SameReference s t r q → size_bits s a r ≡ size_bits t b q
   size-bits a b p SameReference.none = refl
   size-bits a b p (SameReference.size {a = m} {b = n} q) = cc (same-name s t m n a b q p)
   size-bits a b p (SameReference.count q) = refl
@@ -217,23 +216,23 @@ module _ (c d : Setting) (same : SameSetting c d) where
   size-backing a b p SameFields.done = refl
   size-backing a b p (SameFields.more {f} {g} {fs} {gs} k ks) = by _ _ (size-bits a b p (same-reference s t k.desc)) (size-backing a b p ks)
     where
-      by : (x y : MaybeNumber) → x ≡ y → size_backing s a fs ≡ size_backing t b gs
+      by : (x y : Option ℕ) → x ≡ y → size_backing s a fs ≡ size_backing t b gs
           → ◌≡◌ {A = ℕ}
-          (elim x [ MaybeNumber.Some n ↦ n | MaybeNumber.None ↦ size_backing s a fs ])
-          (elim y [ MaybeNumber.Some n ↦ n | MaybeNumber.None ↦ size_backing t b gs ])
-      by (MaybeNumber.Some n) y e h = rw (← e)
-      by MaybeNumber.None y e h = rw (← e) h
+          (elim x [ Some n ↦ n | None ↦ size_backing s a fs ])
+          (elim y [ Some n ↦ n | None ↦ size_backing t b gs ])
+      by (Some n) y e h = rw (← e)
+      by None y e h = rw (← e) h
 
-  elem-of : (width : MaybeNumber) {a b : MaybePart} → SameMaybe s t a b → elem_of c width a ≡ elem_of d width b
-  elem-of (MaybeNumber.Some width) p = cc (same-order)
-  elem-of MaybeNumber.None SameMaybe.none = refl
-  elem-of MaybeNumber.None (SameMaybe.some {a} {b} p) = cc (same-order, enum_type a b p)
+  elem-of : (width : Option ℕ) {a b : Option Part} → SameMaybe s t a b → elem_of c width a ≡ elem_of d width b
+  elem-of (Some width) p = cc (same-order)
+  elem-of None SameMaybe.none = refl
+  elem-of None (SameMaybe.some {a} {b} p) = cc (same-order, enum_type a b p)
 
-  type-name : {a b : MaybePart} → SameMaybe s t a b → type_name c a ≡ type_name d b
+  type-name : {a b : Option Part} → SameMaybe s t a b → type_name c a ≡ type_name d b
   type-name SameMaybe.none = refl
   type-name (SameMaybe.some p) = p
 
-  array-of : (a b : Part) (width : MaybeNumber) (m n : MaybePart) (size : MaybeNumber) → SamePart s t a b → SameMaybe s t m n
+  array-of : (a b : Part) (width : Option ℕ) (m n : Option Part) (size : Option ℕ) → SamePart s t a b → SameMaybe s t m n
       → array_of c a width m size ≡ array_of d b width n size
   array-of a b width m n size p q =
       cc (
@@ -244,7 +243,7 @@ module _ (c d : Setting) (same : SameSetting c d) where
         elem-of width q,
       )
 
-  parse-array : (padding : MaybeNumber) (a b : Part) (width : MaybeNumber) (m n : MaybePart) (modifier : Modifier) (size : MaybeNumber)
+  parse-array : (padding : Option ℕ) (a b : Part) (width : Option ℕ) (m n : Option Part) (modifier : Modifier) (size : Option ℕ)
       → SamePart s t a b → SameMaybe s t m n
       → parse_array_field c padding a width m modifier size ≡ parse_array_field d padding b width n modifier size
   unfolding parse_array_field
@@ -275,10 +274,10 @@ module _ (c d : Setting) (same : SameSetting c d) where
   unfolding is_bit
   is-bit f g h = by h.cond
     where
-      by : {x y : Cond} → SameCond s t x y
+      by : {x y : Option Condition} → SameCond s t x y
           → ◌≡◌ {A = Bool}
-          (elim x [ Cond.None ↦ is_bitfield s c.scope f.desc | Cond.Some id value ↦ false ])
-          (elim y [ Cond.None ↦ is_bitfield t d.scope g.desc | Cond.Some id value ↦ false ])
+          (elim x [ None ↦ is_bitfield s c.scope f.desc | Some cond ↦ false ])
+          (elim y [ None ↦ is_bitfield t d.scope g.desc | Some cond ↦ false ])
       by SameCond.none = is-bitfield s t c.scope d.scope same.scope h.desc
       by (SameCond.some p) = refl
 
@@ -287,10 +286,10 @@ module _ (c d : Setting) (same : SameSetting c d) where
   unfolding parse_unchecked
   parse-unchecked shift a b k {xs} {ys} ks = by k.field.cond
     where
-      by : {x y : Cond} → SameCond s t x y
+      by : {x y : Option Condition} → SameCond s t x y
           → ◌≡◌ {A = Emit}
-          (elim x [ Cond.None ↦ parse_other c shift a xs a.field.desc | Cond.Some id value ↦ parse_optional_field c id value a.field.desc ])
-          (elim y [ Cond.None ↦ parse_other d shift b ys b.field.desc | Cond.Some id value ↦ parse_optional_field d id value b.field.desc ])
+          (elim x [ None ↦ parse_other c shift a xs a.field.desc | Some cond ↦ parse_optional_field c cond.id cond.value a.field.desc ])
+          (elim y [ None ↦ parse_other d shift b ys b.field.desc | Some cond ↦ parse_optional_field d cond.id cond.value b.field.desc ])
       by SameCond.none = parse-other shift a b k ks k.field.desc
       by (SameCond.some {a = i} {b = j} {value} p) = parse-optional i j value p k.field.desc
 

@@ -1,6 +1,8 @@
 -- A record that can be read is, without its lines `bits`, read as the same record (`reads-without`), without its line `raw` as the same record that asks for
 -- no numbers (`reads-plainly`), and without its line `products` as the one that asks for no division (`reads-undivided`). It stays of a right length.
 -- Assumes nothing.
+use Rattle.std.specs.Prelude.{Option, Some, None}
+use Rattle.definitions.specs.Record.{Read, key_of, key_at, on_found, on_read, name_line, on_arrays, trailing_at, raw_at, products_at, optional_at, head_is, head_at, Declaration, Declarations, declarations_are, no_declarations, declarations_at, record_is, no_record, with_head, read_record}
 use mathlib.Core.Bool.{Bool, true, false}
 use mathlib.Core.List.{List, [], ◌∷◌}
 use mathlib.Core.Logic.{inl, inr}
@@ -11,7 +13,6 @@ use lib.Dec.{ltb, eqb}
 use lib.ListN.{length, drop}
 use borrow.Author.Tests.{ne_eqb, ltb-false, le-ltb}
 use Rattle.definitions.specs.Bytes.{Text, text, pick}
-use Rattle.definitions.specs.Record.{key_of, key_at, on_found, on_name, on_head, name_line, on_arrays, trailing_at, raw_at, products_at, optional_at, head_is, head_at, Declaration, Declarations, declarations_are, no_declarations, declarations_at, record_is, no_record, with_head, read_record}
 use Rattle.definitions.specs.Answer.{wrong_length}
 use Rattle.definitions.specs.declared.Part.{Part}
 use Rattle.definitions.specs.declared.EndiannessValue.{EndiannessValue}
@@ -20,9 +21,7 @@ use Rattle.definitions.specs.declared.Trailing.{Trailing}
 use Rattle.definitions.specs.declared.Raw.{Raw}
 use Rattle.definitions.specs.declared.Products.{Products}
 use Rattle.definitions.specs.declared.Head.{Head}
-use Rattle.definitions.specs.declared.Found.{Found}
 use Rattle.definitions.specs.declared.OptionalRead.{OptionalRead}
-use Rattle.definitions.specs.declared.HeadRead.{HeadRead}
 use Rattle.lengths.proofs.Booleans.{impossible, neither}
 use Rattle.alike.specs.Without.{without_bits, without_raw, without_products, plain_head, undivided}
 use Rattle.alike.proofs.Same.{SamePart, SameDeclarations, SameHead, Stating}
@@ -63,27 +62,26 @@ raw_of w = pick w Raw.Numbered Raw.Plain
 abbrev products_of : Bool → Products
 products_of w = pick w Products.Divide Products.Plain
 
-read_by : {A : Type 0} (f : Bool → ℕ → A) (a b : Found) (p : ℕ)
+-- a line of two words says f of which word it is
+read_by : {A : Type 0} (f : Bool → A) (a b : Option ℕ) (p : ℕ)
     → (let x : Bool × ℕ = on_found a (on_found b (false, p) λ i. (true, i)) λ i. (false, i) in
-    on_found a (on_found b (f false p) (f true)) (f false) ≡ f x.0 x.1)
-read_by f (Found.At i) b p = refl
-read_by f Found.Nothing (Found.At i) p = refl
-read_by f Found.Nothing Found.Nothing p = refl
+    ◌≡◌ {A = A × ℕ} (on_found a (on_found b (f false, p) λ i. (f true, i)) λ i. (f false, i)) (f x.0, x.1))
+read_by f (Some i) b p = refl
+read_by f None (Some i) p = refl
+read_by f None None p = refl
 
 module _ (u : Text) (p : ℕ) where
-  trailing-read : trailing_at u p ≡ record { trailing = trailing_of (chosen_at trailing u p).0; next = (chosen_at trailing u p).1 }
+  trailing-read : trailing_at u p ≡ (trailing_of (chosen_at trailing u p).0, (chosen_at trailing u p).1)
   unfolding trailing_at
-  trailing-read =
-      read_by (λ w i. record { trailing = trailing_of w; next = i }) (key_at u p (text "trailing=plain\n")) (key_at u p (text "trailing=padded\n")) p
+  trailing-read = read_by trailing_of (key_at u p (text "trailing=plain\n")) (key_at u p (text "trailing=padded\n")) p
 
-  raw-read : raw_at u p ≡ record { raw = raw_of (chosen_at raw u p).0; next = (chosen_at raw u p).1 }
+  raw-read : raw_at u p ≡ (raw_of (chosen_at raw u p).0, (chosen_at raw u p).1)
   unfolding raw_at
-  raw-read = read_by (λ w i. record { raw = raw_of w; next = i }) (key_at u p (text "raw=plain\n")) (key_at u p (text "raw=numbered\n")) p
+  raw-read = read_by raw_of (key_at u p (text "raw=plain\n")) (key_at u p (text "raw=numbered\n")) p
 
-  products-read : products_at u p ≡ record { products = products_of (chosen_at products u p).0; next = (chosen_at products u p).1 }
+  products-read : products_at u p ≡ (products_of (chosen_at products u p).0, (chosen_at products u p).1)
   unfolding products_at
-  products-read =
-      read_by (λ w i. record { products = products_of w; next = i }) (key_at u p (text "products=plain\n")) (key_at u p (text "products=divide\n")) p
+  products-read = read_by products_of (key_at u p (text "products=plain\n")) (key_at u p (text "products=divide\n")) p
 
 abbrev chosen : Text → ℕ → OptionalRead
 chosen u p =
@@ -124,28 +122,28 @@ in-word f false w v e = ap f e
 -- ---- the head
 
 -- what stands behind `arrays`: the optional lines
-abbrev pub head_end : Text → EndiannessValue → Part → Arrays → ℕ → HeadRead
+abbrev pub head_end : Text → EndiannessValue → Part → Arrays → ℕ → Read Head
 head_end s m target arrays i = head_is m target arrays (optional_at s i)
 
 -- what stands behind its first line
-abbrev pub head_then : Text → EndiannessValue → ℕ → HeadRead
-head_then s m i = on_name (name_line s i (text "target=")) HeadRead.Wrong λ target q. on_arrays s q HeadRead.Wrong (head_end s m target)
+abbrev pub head_then : Text → EndiannessValue → ℕ → Read Head
+head_then s m i = on_read (name_line s i (text "target=")) None λ target q. on_arrays s q None (head_end s m target)
 
 module _ (out : LeftOut) (s t : Text) (n : ℕ) where
   -- nothing is asked where no declarations follow: an optional line that stands behind one that is left out is read in the second text alone
-  abbrev pub HeadAs : HeadRead → HeadRead → Type 0
-  HeadAs HeadRead.Wrong r = Unit {0}
-  HeadAs (HeadRead.Is h p) HeadRead.Wrong = ⊥
-  HeadAs (HeadRead.Is h p) (HeadRead.Is k q) = Declares s p → SameHead s t (head_in out h) k × Beyond out s t n p q
+  abbrev pub HeadAs : Read Head → Read Head → Type 0
+  HeadAs None r = Unit {0}
+  HeadAs (Some (h, p)) None = ⊥
+  HeadAs (Some (h, p)) (Some (k, q)) = Declares s p → SameHead s t (head_in out h) k × Beyond out s t n p q
 
-  pub then-arrays : (p q : ℕ) → Beyond out s t n p q → (f g : Arrays → ℕ → HeadRead)
-      → ((m : Arrays) (i j : ℕ) → Beyond out s t n i j → HeadAs (f m i) (g m j)) → HeadAs (on_arrays s p HeadRead.Wrong f) (on_arrays t q HeadRead.Wrong g)
+  pub then-arrays : (p q : ℕ) → Beyond out s t n p q → (f g : Arrays → ℕ → Read Head)
+      → ((m : Arrays) (i j : ℕ) → Beyond out s t n i j → HeadAs (f m i) (g m j)) → HeadAs (on_arrays s p None f) (on_arrays t q None g)
   then-arrays p q k f g h = by k.rests
     where
-      by : Rests out start (drop p s) (drop q t) → HeadAs (on_arrays s p HeadRead.Wrong f) (on_arrays t q HeadRead.Wrong g)
+      by : Rests out start (drop p s) (drop q t) → HeadAs (on_arrays s p None f) (on_arrays t q None g)
       by (same e r) =
           then-line out s t n HeadAs p q r (omega (arith, k.less)) (text "arrays=lite\n") refl _ _
-          (then-line out s t n HeadAs p q r (omega (arith, k.less)) (text "arrays=full\n") refl HeadRead.Wrong HeadRead.Wrong tt _ _ (h Arrays.Full)) _ _
+          (then-line out s t n HeadAs p q r (omega (arith, k.less)) (text "arrays=full\n") refl None None tt _ _ (h Arrays.Full)) _ _
           (h Arrays.Lite)
       by (cut e r) = rw (other_key out s p (text "arrays=lite\n") refl e, other_key out s p (text "arrays=full\n") refl e) tt
 
@@ -164,21 +162,21 @@ module _ (out : LeftOut) (s t : Text) (n : ℕ) where
   unfolding head_at
   head_as p q r l =
       then-line out s t n HeadAs p q r l (text "endian=little\n") refl _ _
-      (then-line out s t n HeadAs p q r l (text "endian=big\n") refl HeadRead.Wrong HeadRead.Wrong tt _ _ (rest EndiannessValue.BigEndian)) _ _
+      (then-line out s t n HeadAs p q r l (text "endian=big\n") refl None None tt _ _ (rest EndiannessValue.BigEndian)) _ _
       (rest EndiannessValue.LittleEndian)
     where
       rest : (m : EndiannessValue) (i j : ℕ) → Beyond out s t n i j → HeadAs (head_then s m i) (head_then t m j)
       rest m i j k =
-          then-name out s t n HeadAs HeadRead.Wrong (λ x. tt) i j k (text "target=") refl _ _ λ a b x y e u.
+          then-name out s t n HeadAs None (λ x. tt) i j k (text "target=") refl _ _ λ a b x y e u.
           then-arrays x y u (head_end s m a) (head_end t m b) λ o v w z. end-as m o a b v w e z
 
 -- ---- the whole
 
-head-wrong : (out : LeftOut) (s : Text) (p : ℕ) → is_out out (drop p s) ≡ true → head_at s p ≡ HeadRead.Wrong
+head-wrong : (out : LeftOut) (s : Text) (p : ℕ) → is_out out (drop p s) ≡ true → head_at s p ≡ None
 unfolding head_at
 head-wrong out s p e = rw (other_key out s p (text "endian=little\n") refl e, other_key out s p (text "endian=big\n") refl e)
 
-head_clear : (out : LeftOut) (s : Text) (p : ℕ) (h : Head) (i : ℕ) → head_at s p ≡ HeadRead.Is h i → is_out out (drop p s) ≡ false
+head_clear : (out : LeftOut) (s : Text) (p : ℕ) (h : Head) (i : ℕ) → head_at s p ≡ Some (h, i) → is_out out (drop p s) ≡ false
 head_clear out s p h i e = by (is_out out (drop p s)) refl
   where
     by : (b : Bool) → is_out out (drop p s) ≡ b → b ≡ false
@@ -191,8 +189,8 @@ ReadAs kept s t h ds =
     (k : Head) × (es : List Declaration) × (read_record t ≡ record_is k es) × SameHead s t h k × SameDeclarations s t ds es × Stating kept ds es
 
 -- the record behind a head that is read from both texts
-pub record-behind : (out : LeftOut) (s t : Text) (h k : Head) (i j : ℕ) (ds : List Declaration) → head_at t 0 ≡ HeadRead.Is k j
-    → HeadAs out s t (length t) (HeadRead.Is h i) (HeadRead.Is k j) → declarations_at s (length s) i ≡ declarations_are ds
+pub record-behind : (out : LeftOut) (s t : Text) (h k : Head) (i j : ℕ) (ds : List Declaration) → head_at t 0 ≡ Some (k, j)
+    → HeadAs out s t (length t) (Some (h, i)) (Some (k, j)) → declarations_at s (length s) i ≡ declarations_are ds
     → ReadAs (keeps out) s t (head_in out h) ds
 unfolding read_record
 record-behind out s t h k i j ds g u v =
@@ -201,7 +199,7 @@ record-behind out s t h k i j ds g u v =
     declarations-as out s t (length s) (length t) i j ds v x.1.rests x.1.less in (
       k,
       w.declarations,
-      ap (λ (a : HeadRead). on_head a no_record λ o p. with_head o (declarations_at t (length t) p)) g ∙ ap (with_head k) w.read,
+      ap (λ (a : Read Head). on_read a no_record λ o p. with_head o (declarations_at t (length t) p)) g ∙ ap (with_head k) w.read,
       x.0,
       w.same,
       w.stating,
@@ -210,26 +208,26 @@ record-behind out s t h k i j ds g u v =
 -- what was read of a record: a head, and declarations behind it
 pub record RecordIs (s : Text) (h : Head) (ds : List Declaration) : Type 0 where
   pub next : ℕ
-  pub head : head_at s 0 ≡ HeadRead.Is h next
+  pub head : head_at s 0 ≡ Some (h, next)
   pub declarations : declarations_at s (length s) next ≡ declarations_are ds
 
 pub record_is_lem : (s : Text) (h : Head) (ds : List Declaration) → read_record s ≡ record_is h ds → RecordIs s h ds
 unfolding read_record
 record_is_lem s h ds e = head (head_at s 0) refl e
   where
-    rest : (o : Head) (i : ℕ) → head_at s 0 ≡ HeadRead.Is o i → (a : Declarations) → declarations_at s (length s) i ≡ a → with_head o a ≡ record_is h ds
+    rest : (o : Head) (i : ℕ) → head_at s 0 ≡ Some (o, i) → (a : Declarations) → declarations_at s (length s) i ≡ a → with_head o a ≡ record_is h ds
         → RecordIs s h ds
     rest o i c no_declarations d z = impossible (cc)
     rest o i c (declarations_are zs) d z = record { next = i; head = cc; declarations = cc }
 
-    head : (a : HeadRead) → head_at s 0 ≡ a → on_head a no_record (λ o p. with_head o (declarations_at s (length s) p)) ≡ record_is h ds → RecordIs s h ds
-    head HeadRead.Wrong c z = impossible (cc)
-    head (HeadRead.Is o i) c z = rest o i c (declarations_at s (length s) i) refl z
+    head : (a : Read Head) → head_at s 0 ≡ a → on_read a no_record (λ o p. with_head o (declarations_at s (length s) p)) ≡ record_is h ds → RecordIs s h ds
+    head None c z = impossible (cc)
+    head (Some (o, i)) c z = rest o i c (declarations_at s (length s) i) refl z
 
 -- a record that is read from a text is read from a second one that says the same
 pub record-as : (out : LeftOut) (s t : Text) (h : Head) (ds : List Declaration) → read_record s ≡ record_is h ds → Rests out start s t
     → ReadAs (keeps out) s t (head_in out h) ds
-record-as out s t h ds e r = by (head_at t 0) refl (subst (λ (a : HeadRead). HeadAs out s t (length t) a (head_at t 0)) x.head alike)
+record-as out s t h ds e r = by (head_at t 0) refl (subst (λ (a : Read Head). HeadAs out s t (length t) a (head_at t 0)) x.head alike)
   where
     x : RecordIs s h ds
     x = record_is_lem s h ds e
@@ -237,9 +235,9 @@ record-as out s t h ds e r = by (head_at t 0) refl (subst (λ (a : HeadRead). He
     alike : HeadAs out s t (length t) (head_at s 0) (head_at t 0)
     alike = head_as out s t (length t) 0 0 (same_line (head_clear out s 0 h x.next x.head) r) (omega arith)
 
-    by : (b : HeadRead) → head_at t 0 ≡ b → HeadAs out s t (length t) (HeadRead.Is h x.next) b → ReadAs (keeps out) s t (head_in out h) ds
-    by HeadRead.Wrong g u = absurd u
-    by (HeadRead.Is k j) g u = record-behind out s t h k x.next j ds g u x.declarations
+    by : (b : Read Head) → head_at t 0 ≡ b → HeadAs out s t (length t) (Some (h, x.next)) b → ReadAs (keeps out) s t (head_in out h) ds
+    by None g u = absurd u
+    by (Some (k, j)) g u = record-behind out s t h k x.next j ds g u x.declarations
 
 pub reads-without : (s : Text) (h : Head) (ds : List Declaration) → read_record s ≡ record_is h ds → ReadAs false s (without_bits s) h ds
 reads-without s h ds e = record-as LeftOut.bits s (without_bits s) h ds e (bits-sifted s)

@@ -1,10 +1,12 @@
 -- Records that say the same are turned back alike: each test of the verdict but 17, which reads `bits`; the verdict up to 17, and with it where it is met
 -- alike.
 -- Assumes nothing.
+use Rattle.std.specs.Prelude.{Ok, Err, Option, Some, None}
+use Prim.Native.Nat.{ℕ}
+use Rattle.definitions.specs.Refusals.{Verdict, maybe_name, desc_names, cond_names, fields_names, declarations_names, any_keyword, keyword_name, too_many, duplicate_name, find, is_frame, is_enum_desc, is_there, lacks, bad_name, bad_type, bad_names, unknown_from, bad_number, bad_decl, out_of_range, large_field, static_sum, large_row, large_entry, large, ragged_array, is_optional, ragged_desc, ragged_field, ragged, misstated, is_target, no_target, refuse_if, verdict}
 use mathlib.Core.Path.{◌≡◌, refl, ap}
 use mathlib.Core.List.{List, [], ◌∷◌, ◌++◌}
 use mathlib.Core.Bool.{Bool, true, false, not}
-use mathlib.Core.Option.{Option, none, some}
 use mathlib.Core.Logic.{◌⊎◌, inl, inr}
 use lib.Dec.{ltb}
 use lib.ListN.{length}
@@ -12,17 +14,13 @@ use Rattle.definitions.specs.Bytes.{Text}
 use Rattle.definitions.specs.Keywords.{is_keyword}
 use Rattle.definitions.specs.Record.{Declaration}
 use Rattle.definitions.specs.Sizes.{Schema, Entry, Row, Annotated, new_schema}
-use Rattle.definitions.specs.Refusals.{maybe_name, desc_names, cond_names, fields_names, declarations_names, any_keyword, keyword_name, too_many, duplicate_name, find, is_frame, is_enum_desc, is_there, lacks, bad_name, bad_type, bad_names, unknown_from, bad_number, bad_decl, out_of_range, large_field, static_sum, large_row, large_entry, large, ragged_array, is_optional, ragged_desc, ragged_field, ragged, misstated, is_target, no_target, refuse_if, verdict}
 use Rattle.definitions.specs.declared.Part.{Part}
-use Rattle.definitions.specs.declared.MaybePart.{MaybePart}
-use Rattle.definitions.specs.declared.MaybeNumber.{MaybeNumber}
 use Rattle.definitions.specs.declared.Head.{Head}
 use Rattle.definitions.specs.declared.FieldDesc.{FieldDesc}
-use Rattle.definitions.specs.declared.Cond.{Cond}
+use Rattle.definitions.specs.declared.Condition.{Condition}
 use Rattle.definitions.specs.declared.Field.{Field}
 use Rattle.definitions.specs.declared.DeclDesc.{DeclDesc}
 use Rattle.definitions.specs.declared.Refusal.{Refusal}
-use Rattle.definitions.specs.declared.Verdict.{Verdict}
 use Rattle.lengths.proofs.Booleans.{impossible}
 use Rattle.alike.proofs.Same.{SamePart, SameMaybe, SameDesc, SameCond, SameField, SameFields, SameDeclDesc, SameDeclaration, SameDeclarations, SameHead}
 use Rattle.alike.proofs.Names.{same_or, same-name, any_field, any-declaration}
@@ -39,7 +37,7 @@ module _ (s t : Text) where
   parts-append SameParts.done k = k
   parts-append (SameParts.more p h) k = SameParts.more p (parts-append h k)
 
-  maybe-names : {a b : MaybePart} → SameMaybe s t a b → SameParts (maybe_name a) (maybe_name b)
+  maybe-names : {a b : Option Part} → SameMaybe s t a b → SameParts (maybe_name a) (maybe_name b)
   maybe-names SameMaybe.none = SameParts.done
   maybe-names (SameMaybe.some p) = SameParts.more p SameParts.done
 
@@ -59,7 +57,7 @@ module _ (s t : Text) where
   desc-names (SameDesc.flag p) = SameParts.more p SameParts.done
   desc-names (SameDesc.typedef p q) = SameParts.more p (SameParts.more q SameParts.done)
 
-  cond-names : {c d : Cond} → SameCond s t c d → SameParts (cond_names c) (cond_names d)
+  cond-names : {c d : Option Condition} → SameCond s t c d → SameParts (cond_names c) (cond_names d)
   cond-names SameCond.none = SameParts.done
   cond-names (SameCond.some p) = SameParts.more p SameParts.done
 
@@ -108,8 +106,8 @@ module _ (s t : Text) where
   -- ---- 5
 
   data SameKind : Option DeclDesc → Option DeclDesc → Type 0 where
-    missing : SameKind none none
-    found : {d e : DeclDesc} → SameDeclDesc s t d e → SameKind (some d) (some e)
+    missing : SameKind None None
+    found : {d e : DeclDesc} → SameDeclDesc s t d e → SameKind (Some d) (Some e)
 
   same-find : {ds es : List Declaration} → SameDeclarations s t ds es → (a b : Part) → SamePart s t a b → SameKind (find s ds a) (find t es b)
   unfolding find
@@ -118,7 +116,7 @@ module _ (s t : Text) where
       by _ _ (same-name s t d.decl.id e.decl.id a b k.decl.id p) (same-find ks a b p)
     where
       by : (x y : Bool) → x ≡ y → SameKind (find s ds a) (find t es b)
-          → SameKind (elim x [ true ↦ some d.decl.desc | false ↦ find s ds a ]) (elim y [ true ↦ some e.decl.desc | false ↦ find t es b ])
+          → SameKind (elim x [ true ↦ Some d.decl.desc | false ↦ find s ds a ]) (elim y [ true ↦ Some e.decl.desc | false ↦ find t es b ])
       by true true e h = SameKind.found k.decl.desc
       by true false e h = impossible (cc)
       by false true e h = impossible (cc)
@@ -139,7 +137,7 @@ module _ (s t : Text) where
   is-frame (SameDeclDesc.struct p) = refl
 
   module _ (before after : List Declaration) (earlier : SameDeclarations s t before after) where
-    bad-name : (ok : DeclDesc → Bool) → Blind ok → {a b : MaybePart} → SameMaybe s t a b → bad_name s before ok a ≡ bad_name t after ok b
+    bad-name : (ok : DeclDesc → Bool) → Blind ok → {a b : Option Part} → SameMaybe s t a b → bad_name s before ok a ≡ bad_name t after ok b
     bad-name ok h SameMaybe.none = refl
     bad-name ok h (SameMaybe.some {a} {b} p) = by (same-find earlier a b p)
       where
@@ -236,15 +234,15 @@ module _ (s t : Text) where
 
   -- ---- 8
 
-  is-optional : {c d : Cond} → SameCond s t c d → is_optional c ≡ is_optional d
+  is-optional : {c d : Option Condition} → SameCond s t c d → is_optional c ≡ is_optional d
   is-optional SameCond.none = refl
   is-optional (SameCond.some p) = refl
 
   module _ (rs qs : List Row) (rows : SameRows s t rs qs) where
-    ragged-array : (width : MaybeNumber) {a b : MaybePart} → SameMaybe s t a b → ragged_array s rs width a ≡ ragged_array t qs width b
-    ragged-array (MaybeNumber.Some width) p = refl
-    ragged-array MaybeNumber.None SameMaybe.none = refl
-    ragged-array MaybeNumber.None (SameMaybe.some {a} {b} p) = cc (total-of s t rs qs rows a b p)
+    ragged-array : (width : Option ℕ) {a b : Option Part} → SameMaybe s t a b → ragged_array s rs width a ≡ ragged_array t qs width b
+    ragged-array (Some width) p = refl
+    ragged-array None SameMaybe.none = refl
+    ragged-array None (SameMaybe.some {a} {b} p) = cc (total-of s t rs qs rows a b p)
 
     ragged-desc : (optional : Bool) {d e : FieldDesc} → SameDesc s t d e → ragged_desc s rs optional d ≡ ragged_desc t qs optional e
     ragged-desc optional (SameDesc.checksum p) = refl
@@ -287,7 +285,7 @@ module _ (s t : Text) where
 -- verdicts of which R holds, behind tests that are met alike
 module _ (R : Verdict → Verdict → Type 0) (itself : (v : Verdict) → R v v) where
   judged-next : (a b : Bool) (why : Refusal) (v w : Verdict) → a ≡ b → R v w → R (refuse_if a why v) (refuse_if b why w)
-  judged-next true true why v w e h = itself (Verdict.Refuse why)
+  judged-next true true why v w e h = itself (Err why)
   judged-next true false why v w e h = impossible (cc)
   judged-next false true why v w e h = impossible (cc)
   judged-next false false why v w e h = h
@@ -308,7 +306,7 @@ module _ (R : Verdict → Verdict → Type 0) (itself : (v : Verdict) → R v v)
       (judged-next _ _ _ _ _ (same-ragged s t schema) (last (no_target_lem s t h k head schema))))))))
     where
       target : Bool → Verdict
-      target b = refuse_if b Refusal.NoTarget Verdict.Pass
+      target b = refuse_if b Refusal.NoTarget (Ok tt)
 
       last : {a b : Bool} → a ≡ b
           → R (refuse_if (misstated (new_schema s ds)) Refusal.Misstated (target a)) (refuse_if (misstated (new_schema t es)) Refusal.Misstated (target b))
@@ -316,7 +314,7 @@ module _ (R : Verdict → Verdict → Type 0) (itself : (v : Verdict) → R v v)
 
 -- `v` is 17, or it is `w`
 abbrev Judged : Verdict → Verdict → Type 0
-Judged v w = (v ≡ Verdict.Refuse Refusal.Misstated) ⊎ (v ≡ w)
+Judged v w = (v ≡ Err Refusal.Misstated) ⊎ (v ≡ w)
 
 judged-here : (a b : Bool) → b ≡ false → (v : Verdict) → Judged (refuse_if a Refusal.Misstated v) (refuse_if b Refusal.Misstated v)
 judged-here a true e v = impossible (cc)
@@ -325,7 +323,7 @@ judged-here false false e v = inr refl
 
 pub same-verdict : (s t : Text) (h k : Head) (ds es : List Declaration) → SameHead s t h k → SameDeclarations s t ds es
     → misstated (new_schema t es) ≡ false
-    → (verdict s h ds (new_schema s ds) ≡ Verdict.Refuse Refusal.Misstated) ⊎ (verdict s h ds (new_schema s ds) ≡ verdict t k es (new_schema t es))
+    → (verdict s h ds (new_schema s ds) ≡ Err Refusal.Misstated) ⊎ (verdict s h ds (new_schema s ds) ≡ verdict t k es (new_schema t es))
 same-verdict s t h k ds es head ks e =
     judged Judged (λ v. inr refl) s t h k ds es head ks (judged-here (misstated (new_schema s ds)) (misstated (new_schema t es)) e)
 

@@ -2,6 +2,8 @@
 -- for that name (`reads-asking`), and so `lower` answers what it answers where the head does (`answer-asking`). `lower_all` answers the same whichever
 -- packet or struct the head asks for (`all-asking`).
 -- Assumes nothing.
+use Rattle.std.specs.Prelude.{Ok, Err}
+use Rattle.definitions.specs.Refusals.{Verdict, verdict}
 use mathlib.Core.Bool.{Bool, true, false}
 use mathlib.Core.List.{List, ◌∷◌, ◌++◌}
 use mathlib.Core.Path.{◌≡◌, sym, ap, ◌∙◌}
@@ -11,12 +13,10 @@ use borrow.Author.Tests.{le-ltb}
 use Rattle.definitions.specs.Bytes.{Text, part}
 use Rattle.definitions.specs.Record.{Declaration, record_is, read_record}
 use Rattle.definitions.specs.Sizes.{Schema, new_schema}
-use Rattle.definitions.specs.Refusals.{verdict}
 use Rattle.definitions.specs.Answer.{lower_record, wrong_length, answer}
 use Rattle.definitions.specs.All.{Outcomes, refused_all, lower_each, all_record, all_read, answer_all}
 use Rattle.definitions.specs.declared.Head.{Head}
 use Rattle.definitions.specs.declared.Refusal.{Refusal}
-use Rattle.definitions.specs.declared.Verdict.{Verdict}
 use Rattle.alike.specs.Retarget.{with_target, asking}
 use Rattle.alike.proofs.Reading.{ReadAs, some_byte}
 use Rattle.alike.proofs.Targets.{reads-named}
@@ -35,11 +35,11 @@ all_of s h ds w e =
     ap (λ (b : Bool). elim b as (λ _. Outcomes) [ true ↦ refused_all Refusal.RecordLength | false ↦ all_read s (read_record s) ]) w ∙ ap (all_read s) e
 
 -- and where none of 3 to 9, 16 and 17 is
-pub all-passed : (s : Text) (h : Head) (ds : List Declaration) (schema : Schema) → verdict s h ds schema ≡ Verdict.Pass
+pub all-passed : (s : Text) (h : Head) (ds : List Declaration) (schema : Schema) → verdict s h ds schema ≡ (Ok tt)
     → all_record s h ds schema ≡ lower_each s h schema
 unfolding all_record
 all-passed s h ds schema v =
-    ap (λ (w : Verdict). elim w as (λ _. Outcomes) [ Verdict.Pass ↦ lower_each s h schema | Verdict.Refuse why ↦ refused_all why ]) v
+    ap (λ (w : Verdict). elim w as (λ _. Outcomes) [ (Ok tt) ↦ lower_each s h schema | Err why ↦ refused_all why ]) v
 
 -- d is one of the declarations
 module _ (s : Text) (h : Head) (ds : List Declaration) (e : read_record s ≡ record_is h ds) (pre post : List Declaration) (d : Declaration)
@@ -64,11 +64,11 @@ module _ (s : Text) (h : Head) (ds : List Declaration) (e : read_record s ≡ re
         ∙ sym (stated-record s retargeted (asking d.decl.id h) a.0 ds a.1 a.3 a.4 a.5)
 
     -- and all targets together come to the same, where neither head meets one of 3 to 9, 16 and 17
-    pub all-asking : verdict s h ds (new_schema s ds) ≡ Verdict.Pass → verdict s (asking d.decl.id h) ds (new_schema s ds) ≡ Verdict.Pass
+    pub all-asking : verdict s h ds (new_schema s ds) ≡ (Ok tt) → verdict s (asking d.decl.id h) ds (new_schema s ds) ≡ (Ok tt)
         → wrong_length s ≡ false → answer_all (with_target s h (part s d.decl.id)) ≡ answer_all s
     all-asking v o w =
         let a = reads-asking in
-        let u : verdict retargeted a.0 a.1 (new_schema retargeted a.1) ≡ Verdict.Pass =
+        let u : verdict retargeted a.0 a.1 (new_schema retargeted a.1) ≡ (Ok tt) =
         sym (stated-verdict s retargeted (asking d.decl.id h) a.0 ds a.1 a.3 a.4 (same-stated s retargeted ds a.1 a.4 a.5)) ∙ o in
         all_of retargeted a.0 a.1 length-right a.2 ∙ all-passed retargeted a.0 a.1 (new_schema retargeted a.1) u
         ∙ sym (same-each s retargeted h a.0 a.3.options (same-schema s retargeted a.4))

@@ -1,18 +1,17 @@
 -- Records that say the same have the same sizes: each definition of definitions/specs/Sizes, up to the tables.
 -- Assumes nothing.
+use Rattle.std.specs.Prelude.{Option, Some, None}
+use Prim.Native.Nat.{ℕ}
 use mathlib.Core.Path.{◌≡◌, refl}
 use mathlib.Core.List.{List, [], ◌∷◌, ◌++◌}
 use mathlib.Core.Bool.{Bool, true, false}
-use mathlib.Core.Option.{Option, none, some}
 use Rattle.definitions.specs.Bytes.{Text, any}
 use Rattle.definitions.specs.Record.{Declaration}
 use Rattle.definitions.specs.Sizes.{add_size, Row, total_size, lookup, total_of, parent_of, array_bits, desc_size, annotate_field, padding_bits, padded_by, Annotated, annotate_fields, is_payload, is_array, fields_size, payloads_size, parent_id, decl_size_of, payload_size_of, row_of, Entry, Schema, annotate_decl, annotate_from, new_schema, element_size, counted_by, first_count, array_size, desc_enum, enum_of, is_bitfield}
-use Rattle.definitions.specs.declared.EnumOf.{EnumOf}
+use Rattle.definitions.specs.declared.EnumKind.{EnumKind}
 use Rattle.definitions.specs.declared.Part.{Part}
-use Rattle.definitions.specs.declared.MaybePart.{MaybePart}
-use Rattle.definitions.specs.declared.MaybeNumber.{MaybeNumber}
 use Rattle.definitions.specs.declared.FieldDesc.{FieldDesc}
-use Rattle.definitions.specs.declared.Cond.{Cond}
+use Rattle.definitions.specs.declared.Condition.{Condition}
 use Rattle.definitions.specs.declared.Field.{Field}
 use Rattle.definitions.specs.declared.DeclDesc.{DeclDesc}
 use Rattle.definitions.specs.declared.Decl.{Decl}
@@ -40,8 +39,8 @@ module _ (s t : Text) where
   rows_snoc r q (SameRows.more k ks) h = SameRows.more k (rows_snoc r q ks h)
 
   data SameFound : Option Row → Option Row → Type 0 where
-    missing : SameFound none none
-    found : {r q : Row} → SameRow r q → SameFound (some r) (some q)
+    missing : SameFound None None
+    found : {r q : Row} → SameRow r q → SameFound (Some r) (Some q)
 
   pub total_size_lem : (r q : Row) → SameRow r q → total_size r ≡ total_size q
   total_size_lem r q h = cc
@@ -60,7 +59,7 @@ module _ (s t : Text) where
       by _ _ (same-name s t r.decl.id q.decl.id a b k.decl.id p) (same-lookup ks a b p)
     where
       by : (x y : Bool) → x ≡ y → SameFound (lookup s rs a) (lookup t qs b)
-          → SameFound (elim x [ true ↦ some r | false ↦ lookup s rs a ]) (elim y [ true ↦ some q | false ↦ lookup t qs b ])
+          → SameFound (elim x [ true ↦ Some r | false ↦ lookup s rs a ]) (elim y [ true ↦ Some q | false ↦ lookup t qs b ])
       by true true e h = SameFound.found k
       by true false e h = impossible (cc)
       by false true e h = impossible (cc)
@@ -71,7 +70,7 @@ module _ (s t : Text) where
     total-of a b p = by (same-lookup rows a b p)
       where
         by : {x y : Option Row} → SameFound x y
-            → ◌≡◌ {A = Size} (elim x [ some r ↦ total_size r | none ↦ Size.Unknown ]) (elim y [ some r ↦ total_size r | none ↦ Size.Unknown ])
+            → ◌≡◌ {A = Size} (elim x [ Some r ↦ total_size r | None ↦ Size.Unknown ]) (elim y [ Some r ↦ total_size r | None ↦ Size.Unknown ])
         by SameFound.missing = refl
         by (SameFound.found {r} {q} h) = total_size_lem r q h
 
@@ -79,20 +78,20 @@ module _ (s t : Text) where
     enum-of a b p = by (same-lookup rows a b p)
       where
         by : {x y : Option Row} → SameFound x y
-            → ◌≡◌ {A = EnumOf}
-            (elim x [ some r ↦ desc_enum r.decl.desc | none ↦ EnumOf.None ])
-            (elim y [ some r ↦ desc_enum r.decl.desc | none ↦ EnumOf.None ])
+            → ◌≡◌ {A = Option EnumKind}
+            (elim x [ Some r ↦ desc_enum r.decl.desc | None ↦ None ])
+            (elim y [ Some r ↦ desc_enum r.decl.desc | None ↦ None ])
         by SameFound.missing = refl
         by (SameFound.found h) = same-enum h.decl.desc
 
-    parent-of : {a b : MaybePart} → SameMaybe s t a b → parent_of s rs a ≡ parent_of t qs b
+    parent-of : {a b : Option Part} → SameMaybe s t a b → parent_of s rs a ≡ parent_of t qs b
     parent-of SameMaybe.none = refl
     parent-of (SameMaybe.some {a} {b} p) = by (same-lookup rows a b p)
       where
         by : {x y : Option Row} → SameFound x y
             → ◌≡◌ {A = Size}
-            (elim x [ some r ↦ add_size r.decl_size r.parent_size | none ↦ Size.Static 0 ])
-            (elim y [ some r ↦ add_size r.decl_size r.parent_size | none ↦ Size.Static 0 ])
+            (elim x [ Some r ↦ add_size r.decl_size r.parent_size | None ↦ Size.Static 0 ])
+            (elim y [ Some r ↦ add_size r.decl_size r.parent_size | None ↦ Size.Static 0 ])
         by SameFound.missing = refl
         by (SameFound.found {r} {q} h) = cc
 
@@ -115,12 +114,12 @@ module _ (s t : Text) where
     -- ---- `fs` and `gs` are the fields of the declaration
 
     module _ (fs gs : List Field) (fields : SameFields s t fs gs) where
-      array-bits : (a b : Part) (width : MaybeNumber) {c d : MaybePart} (size : MaybeNumber) → SamePart s t a b → SameMaybe s t c d
+      array-bits : (a b : Part) (width : Option ℕ) {c d : Option Part} (size : Option ℕ) → SamePart s t a b → SameMaybe s t c d
           → array_bits s rs fs a width c size ≡ array_bits t qs gs b width d size
-      array-bits a b width MaybeNumber.None p q = cc (has-array-size s t fields a b p)
-      array-bits a b (MaybeNumber.Some width) (MaybeNumber.Some size) p q = refl
-      array-bits a b MaybeNumber.None (MaybeNumber.Some size) p SameMaybe.none = refl
-      array-bits a b MaybeNumber.None (MaybeNumber.Some size) p (SameMaybe.some {a = c} {b = d} q) = cc (total-of c d q)
+      array-bits a b width None p q = cc (has-array-size s t fields a b p)
+      array-bits a b (Some width) (Some size) p q = refl
+      array-bits a b None (Some size) p SameMaybe.none = refl
+      array-bits a b None (Some size) p (SameMaybe.some {a = c} {b = d} q) = cc (total-of c d q)
 
       desc-size : {d e : FieldDesc} → SameDesc s t d e → desc_size s rs fs d ≡ desc_size t qs gs e
       unfolding desc_size
@@ -142,18 +141,18 @@ module _ (s t : Text) where
       annotate-field : (f g : Field) → SameField s t f g → annotate_field s rs fs f ≡ annotate_field t qs gs g
       annotate-field f g h = by h.cond
         where
-          by : {x y : Cond} → SameCond s t x y
+          by : {x y : Option Condition} → SameCond s t x y
               → ◌≡◌ {A = Size}
-              (elim x [ Cond.None ↦ desc_size s rs fs f.desc | Cond.Some id value ↦ Size.Dynamic ])
-              (elim y [ Cond.None ↦ desc_size t qs gs g.desc | Cond.Some id value ↦ Size.Dynamic ])
+              (elim x [ None ↦ desc_size s rs fs f.desc | Some cond ↦ Size.Dynamic ])
+              (elim y [ None ↦ desc_size t qs gs g.desc | Some cond ↦ Size.Dynamic ])
           by SameCond.none = desc-size h.desc
           by (SameCond.some p) = refl
 
-      pub element-size : (a b : Part) (width : MaybeNumber) {c d : MaybePart} → SamePart s t a b → SameMaybe s t c d
+      pub element-size : (a b : Part) (width : Option ℕ) {c d : Option Part} → SamePart s t a b → SameMaybe s t c d
           → element_size s rs fs a width c ≡ element_size t qs gs b width d
-      element-size a b (MaybeNumber.Some width) p q = refl
-      element-size a b MaybeNumber.None p SameMaybe.none = refl
-      element-size a b MaybeNumber.None p (SameMaybe.some {a = c} {b = d} q) = cc (total-of c d q, has-element-size s t fields a b p)
+      element-size a b (Some width) p q = refl
+      element-size a b None p SameMaybe.none = refl
+      element-size a b None p (SameMaybe.some {a = c} {b = d} q) = cc (total-of c d q, has-element-size s t fields a b p)
 
   -- ---- counts of an array
 
@@ -162,17 +161,17 @@ module _ (s t : Text) where
   first_count_lem a b p SameFields.done = refl
   first_count_lem a b p (SameFields.more {f} {g} {fs} {gs} k ks) = by (same-reference s t k.desc) (first_count_lem a b p ks)
     where
-      by : {r q : Reference} → SameReference s t r q → first_count s a fs ≡ first_count t b gs
+      by : {r q : Option Reference} → SameReference s t r q → first_count s a fs ≡ first_count t b gs
           → counted_by s a r (first_count s a fs) ≡ counted_by t b q (first_count t b gs)
       by SameReference.none h = h
       by (SameReference.size {a = c} {b = d} q) h = cc (same-name s t c d a b q p)
       by (SameReference.count {a = c} {b = d} q) h = cc (same-name s t c d a b q p)
       by (SameReference.element_size q) h = h
 
-  pub array_size_lem : {fs gs : List Field} → SameFields s t fs gs → (a b : Part) (size : MaybeNumber) → SamePart s t a b
+  pub array_size_lem : {fs gs : List Field} → SameFields s t fs gs → (a b : Part) (size : Option ℕ) → SamePart s t a b
       → array_size s fs a size ≡ array_size t gs b size
-  array_size_lem ks a b (MaybeNumber.Some n) p = refl
-  array_size_lem ks a b MaybeNumber.None p = first_count_lem a b p ks
+  array_size_lem ks a b (Some n) p = refl
+  array_size_lem ks a b None p = first_count_lem a b p ks
 
   -- ---- fields with their sizes
 

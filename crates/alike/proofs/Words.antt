@@ -1,5 +1,8 @@
 -- A name that was read is a word and the newline behind it, and is read wherever the same word stands before a newline (`name-spelled`).
 -- Assumes nothing.
+use Rattle.std.proofs.lemmas.Option.{some_pair_parts}
+use Rattle.std.specs.Prelude.{Option, Some, None}
+use Rattle.definitions.specs.Record.{Read, key_of, key_at, part_of, word_of, name_of, digits_line, some_digits, digits_behind, is_forbidden, name_at}
 use mathlib.Core.Bool.{Bool, true, false}
 use mathlib.Core.List.{[], ◌∷◌, ◌++◌}
 use mathlib.Core.Path.{◌≡◌, refl, sym, ap, ◌∙◌, subst}
@@ -11,10 +14,7 @@ use lib.ListN.{length, take, drop}
 use lib.Seq.{take-append_seam, drop-append_seam, drop-drop}
 use borrow.Author.Tests.{eqb-true, eqb-false}
 use Rattle.definitions.specs.Bytes.{Text, text, part, is_digit, is_word}
-use Rattle.definitions.specs.Record.{key_of, key_at, part_of, word_of, name_of, digits_line, some_digits, digits_behind, is_forbidden, name_at}
 use Rattle.definitions.specs.declared.Part.{Part}
-use Rattle.definitions.specs.declared.Found.{Found}
-use Rattle.definitions.specs.declared.NameRead.{NameRead}
 use Rattle.lengths.proofs.Booleans.{impossible}
 use Rattle.alike.proofs.Leaves.{fits, rest-behind, FoundAs, found-same}
 
@@ -49,8 +49,8 @@ module _ (s t r₁ r₂ : Text) where
       last false ls h = impossible (cc)
 
       by : (c : Bool) → eqb 10 k ≡ c
-          → FoundAs (Behind b) (elim c [ true ↦ key_of ks r₁ (p + 1) | false ↦ Found.Nothing ])
-          (elim c [ true ↦ key_of ks r₂ (q + 1) | false ↦ Found.Nothing ])
+          → FoundAs (Behind b) (elim c [ true ↦ key_of ks r₁ (p + 1) | false ↦ None ])
+          (elim c [ true ↦ key_of ks r₂ (q + 1) | false ↦ None ])
       by false e = tt
       by true e = last b ks (subst (λ (y : ℕ). fits b (y ∷ ks) ≡ true) (sym (eqb-true 10 k e)) f)
   key-line b (k ∷ ks) (x ∷ w) p q f a = by (eqb x k) refl (key-line b ks w (p + 1) (q + 1))
@@ -60,8 +60,8 @@ module _ (s t r₁ r₂ : Text) where
 
       by : (c : Bool) → eqb x k ≡ c
           → (fits b ks ≡ true → Along w (p + 1) (q + 1) → FoundAs (Behind b) (key_of ks (w ++ (10 ∷ r₁)) (p + 1)) (key_of ks (w ++ (10 ∷ r₂)) (q + 1)))
-          → FoundAs (Behind b) (elim c [ true ↦ key_of ks (w ++ (10 ∷ r₁)) (p + 1) | false ↦ Found.Nothing ])
-          (elim c [ true ↦ key_of ks (w ++ (10 ∷ r₂)) (q + 1) | false ↦ Found.Nothing ])
+          → FoundAs (Behind b) (elim c [ true ↦ key_of ks (w ++ (10 ∷ r₁)) (p + 1) | false ↦ None ])
+          (elim c [ true ↦ key_of ks (w ++ (10 ∷ r₂)) (q + 1) | false ↦ None ])
       by false e ih = tt
       by true e ih = ih (rw a.0.0 at (subst (λ (y : ℕ). fits b (y ∷ ks) ≡ true) (sym (eqb-true x k e)) f)) goes
 
@@ -88,20 +88,20 @@ module _ (s t r₁ r₂ : Text) where
       there : (b : Bool) (key : Text) → fits b key ≡ true → FoundAs (Behind b) (key_at s p key) (key_at t q key)
       there b key f = rw (a.1, a.2) (key-line b key w p q f a)
 
-      digits : (i j : Found) → FoundAs (Behind false) i j → digits_behind s i ≡ digits_behind t j
-      digits (Found.At i) (Found.At j) h = ap some_digits h.1.1 ∙ some-digits h.0 ∙ sym (ap some_digits h.1.2)
-      digits (Found.At i) Found.Nothing h = absurd h
-      digits Found.Nothing (Found.At j) h = absurd h
-      digits Found.Nothing Found.Nothing h = refl
+      digits : (i j : Option ℕ) → FoundAs (Behind false) i j → digits_behind s i ≡ digits_behind t j
+      digits (Some i) (Some j) h = ap some_digits h.1.1 ∙ some-digits h.0 ∙ sym (ap some_digits h.1.2)
+      digits (Some i) None h = absurd h
+      digits None (Some j) h = absurd h
+      digits None None h = refl
 
 -- ---- a word that was read
 
 -- a name up to the place `to`, where its newline is
-abbrev pub name_to : ℕ → ℕ → NameRead
-name_to from to = NameRead.Is (part_of from to) (to + 1)
+abbrev pub name_to : ℕ → ℕ → Read Part
+name_to from to = Some (part_of from to, to + 1)
 
 -- the answer `a` at the place `at`, with `c` bytes before it
-record Word (u : Text) (from c at : ℕ) (a : NameRead) : Type 0 where
+record Word (u : Text) (from c at : ℕ) (a : Read Part) : Type 0 where
   word : Text
   rest : Text
   are : u ≡ word ++ (10 ∷ rest)
@@ -111,19 +111,19 @@ record Word (u : Text) (from c at : ℕ) (a : NameRead) : Type 0 where
   again : (r : Text) (to q : ℕ) → word_of (word ++ (10 ∷ r)) to c q ≡ name_to to (q + length word)
 
 -- a word that is read ends in a newline, and what stands behind that has no part in it
-word_read : (u : Text) (from c at : ℕ) (n : Part) (j : ℕ) → c ≤ 32 → word_of u from c at ≡ NameRead.Is n j → Word u from c at (NameRead.Is n j)
+word_read : (u : Text) (from c at : ℕ) (n : Part) (j : ℕ) → c ≤ 32 → word_of u from c at ≡ Some (n, j) → Word u from c at (Some (n, j))
 unfolding word_of
 word_read [] from c at n j l e = impossible (cc)
 word_read (x ∷ u) from c at n j l e =
     by (eqb x 10) refl (eqb c 32) refl (is_word x) refl (word_read u from (c + 1) (at + 1) n j) e
   where
     by : (a : Bool) → eqb x 10 ≡ a → (b : Bool) → eqb c 32 ≡ b → (d : Bool) → is_word x ≡ d
-        → (c + 1 ≤ 32 → word_of u from (c + 1) (at + 1) ≡ NameRead.Is n j → Word u from (c + 1) (at + 1) (NameRead.Is n j))
-        → ◌≡◌ {A = NameRead} (elim a [
-          | true ↦ NameRead.Is (part_of from at) (at + 1)
-          | false ↦ elim b [ true ↦ NameRead.Wrong | false ↦ elim d [ true ↦ word_of u from (c + 1) (at + 1) | false ↦ NameRead.Wrong ] ]
-        ]) (NameRead.Is n j)
-        → Word (x ∷ u) from c at (NameRead.Is n j)
+        → (c + 1 ≤ 32 → word_of u from (c + 1) (at + 1) ≡ Some (n, j) → Word u from (c + 1) (at + 1) (Some (n, j)))
+        → ◌≡◌ {A = Read Part} (elim a [
+          | true ↦ Some (part_of from at, at + 1)
+          | false ↦ elim b [ true ↦ None | false ↦ elim d [ true ↦ word_of u from (c + 1) (at + 1) | false ↦ None ] ]
+        ]) (Some (n, j))
+        → Word (x ∷ u) from c at (Some (n, j))
     by true f b g d h ih z =
         record {
           word = [];
@@ -137,7 +137,7 @@ word_read (x ∷ u) from c at n j l e =
     by false f true g d h ih z = impossible (cc)
     by false f false g false h ih z = impossible (cc)
     by false f false g true h ih z =
-        let w : Word u from (c + 1) (at + 1) (NameRead.Is n j) = ih (below (eqb-false c 32 g)) z in
+        let w : Word u from (c + 1) (at + 1) (Some (n, j)) = ih (below (eqb-false c 32 g)) z in
         record {
           word = x ∷ w.word;
           rest = w.rest;
@@ -154,7 +154,7 @@ word_read (x ∷ u) from c at n j l e =
 -- ---- a name that was read
 
 -- the answer `a` at the place `p`
-pub record Spelled (s : Text) (p : ℕ) (a : NameRead) : Type 0 where
+pub record Spelled (s : Text) (p : ℕ) (a : Read Part) : Type 0 where
   pub word : Text
   pub rest : Text
   pub are : drop p s ≡ word ++ (10 ∷ rest)
@@ -171,12 +171,12 @@ first_byte x u [] r v q d z e = impossible (cc)
 first_byte x u (y ∷ w) r v q d z e = let f : is_digit y ≡ false = cc in let g : eqb y 10 ≡ false = cc in rw (name_of, f, g)
 
 -- so is every name that is read
-pub name-spelled : (s : Text) (p : ℕ) (n : Part) (j : ℕ) → name_at s p ≡ NameRead.Is n j → Spelled s p (NameRead.Is n j)
+pub name-spelled : (s : Text) (p : ℕ) (n : Part) (j : ℕ) → name_at s p ≡ Some (n, j) → Spelled s p (Some (n, j))
 unfolding name_at name_of
 name-spelled s p n j e = by (is_forbidden s p) refl (drop p s) refl e
   where
     spelled : is_forbidden s p ≡ false → (x : ℕ) (u : Text) → drop p s ≡ x ∷ u → is_digit x ≡ false → eqb x 10 ≡ false
-        → Word (x ∷ u) p 0 p (NameRead.Is n j) → Spelled s p (NameRead.Is n j)
+        → Word (x ∷ u) p 0 p (Some (n, j)) → Spelled s p (Some (n, j))
     spelled f x u g d z w =
         record {
           word = w.word;
@@ -190,14 +190,14 @@ name-spelled s p n j e = by (is_forbidden s p) refl (drop p s) refl e
         }
 
     first : is_forbidden s p ≡ false → (x : ℕ) (u : Text) → drop p s ≡ x ∷ u → (a : Bool) → is_digit x ≡ a → (b : Bool) → eqb x 10 ≡ b
-        → ◌≡◌ {A = NameRead} (elim a [ true ↦ NameRead.Wrong | false ↦ elim b [ true ↦ NameRead.Wrong | false ↦ word_of (x ∷ u) p 0 p ] ]) (NameRead.Is n j)
-        → Spelled s p (NameRead.Is n j)
+        → ◌≡◌ {A = Read Part} (elim a [ true ↦ None | false ↦ elim b [ true ↦ None | false ↦ word_of (x ∷ u) p 0 p ] ]) (Some (n, j))
+        → Spelled s p (Some (n, j))
     first f x u g true d b z k = impossible (cc)
     first f x u g false d true z k = impossible (cc)
     first f x u g false d false z k = spelled f x u g d z (word_read (x ∷ u) p 0 p n j (omega arith) k)
 
     by : (b : Bool) → is_forbidden s p ≡ b → (u : Text) → drop p s ≡ u
-        → ◌≡◌ {A = NameRead} (elim b [ true ↦ NameRead.Wrong | false ↦ name_of u p ]) (NameRead.Is n j) → Spelled s p (NameRead.Is n j)
+        → ◌≡◌ {A = Read Part} (elim b [ true ↦ None | false ↦ name_of u p ]) (Some (n, j)) → Spelled s p (Some (n, j))
     by true f u g z = impossible (cc)
     by false f [] g z = impossible (cc)
     by false f (x ∷ u) g z = first f x u g (is_digit x) refl (eqb x 10) refl z
@@ -214,7 +214,7 @@ pub part-word : (s w r : Text) (p : ℕ) → drop p s ≡ w ++ (10 ∷ r) → pa
 part-word s w r p e =
     ap (λ (k : ℕ). take k (drop p s)) (let z : p + length w - p ≡ length w = omega arith in z) ∙ ap (take (length w)) e ∙ take-append_seam w (10 ∷ r)
 
-pub part-spelled : (s : Text) (p : ℕ) (n : Part) (j : ℕ) (w : Spelled s p (NameRead.Is n j)) → part s n ≡ w.word
+pub part-spelled : (s : Text) (p : ℕ) (n : Part) (j : ℕ) (w : Spelled s p (Some (n, j))) → part s n ≡ w.word
 part-spelled s p n j w =
-    let e : n ≡ part_of p (p + length w.word) = cc w.read in
+    let e : n ≡ part_of p (p + length w.word) = (some_pair_parts _ _ _ _ w.read).0 in
     ap (part s) e ∙ part-word s w.word w.rest p w.are

@@ -1,7 +1,8 @@
 -- One field after the other: each part of `add_field`, and the walk over the fields.
 -- Assumes nothing.
+use Rattle.std.specs.Prelude.{Option}
 use Prim.Native.Nat.{ℕ, ◌+◌, ◌-◌, ◌≤◌, ◌<◌}
-use mathlib.Core.Bool.{Bool, true, false, ◌||◌}
+use mathlib.Core.Bool.{Bool, ◌||◌}
 use mathlib.Core.List.{List}
 use mathlib.Core.Path.{◌≡◌, sym, ap, ◌∙◌}
 use lib.ListN.{get_or}
@@ -9,30 +10,15 @@ use Rattle.definitions.specs.Bytes.{Text, pick}
 use Rattle.definitions.specs.Sizes.{Row, is_payload, add_size, outer_size, annotate_field, annotate_fields, padded_by, static_width}
 use Rattle.definitions.specs.Refusals.{large_size, too_large, bad_maybe}
 use Rattle.definitions.specs.declared.Field.{Field}
-use Rattle.definitions.specs.declared.MaybeNumber.{MaybeNumber}
 use Rattle.definitions.specs.declared.Size.{Size}
 use Rattle.tables.specs.Tables.{field_here, fields_from}
 use Rattle.bits.specs.Capped.{cap, capped, capped_number}
 use Rattle.bits.proofs.Caps.{cap-sums, cap-again, capped-sum, capped-again, capped-bits, capped-large, capped-outer, capped-padded}
-use Rattle.tables.proofs.Walks.{fields-start, fields-end, fields-more}
-use Rattle.annotate.specs.Sums.{add_field, next_field, sum_fields, no_fields}
+use Rattle.tables.proofs.Walks.{fields-end, fields-more}
+use Rattle.annotate.specs.Sums.{add_field, next_field, sum_fields}
 use Rattle.annotate.specs.declared.FieldSums.{FieldSums}
 
-pub padded-large-as : {p c : MaybeNumber} {b : Bool} → p ≡ c → b ≡ bad_maybe too_large c → b ≡ bad_maybe too_large p
-padded-large-as e h = h ∙ ap (bad_maybe too_large) (sym e)
-
-module _ {b : Bool} (x y : Size) where
-  pub pick_first : b ≡ true → {r : Size} → r ≡ x → r ≡ pick b x y
-  pick_first h e = e ∙ ap (λ (b : Bool). pick b x y) (sym h)
-
-  pub pick_second : b ≡ false → {r : Size} → r ≡ y → r ≡ pick b x y
-  pick_second h e = e ∙ ap (λ (b : Bool). pick b x y) (sym h)
-
-pub sum-outer : (sum size : Size) (p : MaybeNumber) {o : Size} → o ≡ outer_size size p → {r : Size} → r ≡ capped (add_size sum o)
-    → r ≡ capped (add_size sum (outer_size size p))
-sum-outer sum size p e h = h ∙ ap (λ (o : Size). capped (add_size sum o)) e
-
-module _ (t : FieldSums) (b : Bool) (z : Size) (p : MaybeNumber) where
+module _ (t : FieldSums) (b : Bool) (z : Size) (p : Option ℕ) where
   pub field-added : {large : Bool} → large ≡ (t.large || (large_size z || bad_maybe too_large p))
       → {sum : Size} → sum ≡ pick b t.sum (capped (add_size t.sum (outer_size z p)))
       → {payload : Size} → payload ≡ pick b (capped z) t.payload → {bits : ℕ} → bits ≡ cap (t.bits + static_width z)
@@ -57,7 +43,7 @@ module _ (t : FieldSums) (b : Bool) (z : Size) (p : MaybeNumber) where
 module _ (s : Text) (rows : List Row) (values fields : List ℕ) (j n : ℕ) where
   pub next-added : (k : ℕ) (t : FieldSums) {f : Field} → f ≡ field_here values (get_or fields (j + k) 0)
       → {z : Size} → z ≡ capped (annotate_field s rows (fields_from values fields j n) f)
-      → {p : MaybeNumber} → p ≡ capped_number (padded_by (fields_from values fields (j + (k + 1)) (n - (k + 1)))) → {b : Bool} → b ≡ is_payload f.desc
+      → {p : Option ℕ} → p ≡ capped_number (padded_by (fields_from values fields (j + (k + 1)) (n - (k + 1)))) → {b : Bool} → b ≡ is_payload f.desc
       → {u : FieldSums} → u ≡ add_field t b z p → u ≡ next_field s rows values fields j n k t
   unfolding next_field
   next-added k t {f} ef {z} ez {p} ep {b} eb {u} eu =
@@ -67,10 +53,6 @@ module _ (s : Text) (rows : List Row) (values fields : List ℕ) (j n : ℕ) whe
       (padded_by (fields_from values fields (j + (k + 1)) (n - (k + 1))))
       ∙ ap (λ (f : Field). add_field t (is_payload f.desc) (annotate_field s rows (fields_from values fields j n) f)
       (padded_by (fields_from values fields (j + (k + 1)) (n - (k + 1))))) ef
-
-  pub walk_start : sum_fields no_fields (annotate_fields s rows (fields_from values fields j n) (fields_from values fields (j + 0) (n - 0)))
-      ≡ sum_fields no_fields (annotate_fields s rows (fields_from values fields j n) (fields_from values fields j n))
-  walk_start = ap (λ (fs : List Field). sum_fields no_fields (annotate_fields s rows (fields_from values fields j n) fs)) (fields-start values fields j n)
 
   module _ (k : ℕ) (t : FieldSums) {e : FieldSums}
       (inv : sum_fields t (annotate_fields s rows (fields_from values fields j n) (fields_from values fields (j + k) (n - k))) ≡ e) where

@@ -1,11 +1,10 @@
 -- What the code keeps of the fields of a declaration, one field after the other: `any large_field`, `fields_size`, `payloads_size` and `static_sum` at
 -- once, with what is over the limit capped.
 -- Assumes nothing.
-use Rattle.std.specs.Prelude.{Bool, false, ◌||◌, List, [], ◌∷◌, ℕ, ◌+◌, ◌-◌, get_or}
+use Rattle.std.specs.Prelude.{Option, Bool, false, ◌||◌, List, [], ◌∷◌, ℕ, ◌+◌, ◌-◌, get_or}
 use Rattle.definitions.specs.Bytes.{Text, pick}
 use Rattle.definitions.specs.Sizes.{Row, Annotated, is_payload, add_size, outer_size, annotate_field, padded_by, static_width}
 use Rattle.definitions.specs.Refusals.{large_size, too_large, bad_maybe}
-use Rattle.definitions.specs.declared.MaybeNumber.{MaybeNumber}
 use Rattle.definitions.specs.declared.Size.{Size}
 use Rattle.tables.specs.Tables.{field_here, fields_from}
 use Rattle.bits.specs.Capped.{cap, capped}
@@ -16,7 +15,7 @@ abbrev pub no_fields : FieldSums
 no_fields = record { large = false; sum = Size.Static 0; payload = Size.Static 0; bits = 0 }
 
 -- one field more, with its `field_size` and `padded_size`
-abbrev pub add_field : FieldSums → Bool → Size → MaybeNumber → FieldSums
+abbrev pub add_field : FieldSums → Bool → Size → Option ℕ → FieldSums
 add_field t payload size padded =
     record {
       large = t.large || (large_size size || bad_maybe too_large padded);

@@ -1,5 +1,6 @@
 -- Behind refusal 7 the bytes of an array of fixed size are a number of the machine: they are no more than its bits.
 -- Assumes nothing.
+use Rattle.std.specs.Prelude.{Option, Some, None}
 use mathlib.Core.Bool.{Bool, true, false}
 use mathlib.Core.List.{List, [], ◌∷◌}
 use mathlib.Core.Path.{◌≡◌, refl}
@@ -14,8 +15,6 @@ use Rattle.definitions.specs.Refusals.{large_size}
 use Rattle.definitions.specs.declared.ArraySize.{ArraySize}
 use Rattle.definitions.specs.declared.ElementSize.{ElementSize}
 use Rattle.definitions.specs.declared.Field.{Field}
-use Rattle.definitions.specs.declared.MaybeNumber.{MaybeNumber}
-use Rattle.definitions.specs.declared.MaybePart.{MaybePart}
 use Rattle.definitions.specs.declared.Part.{Part}
 use Rattle.definitions.specs.declared.Reference.{Reference}
 use Rattle.definitions.specs.declared.Size.{Size}
@@ -45,11 +44,11 @@ unknown-count (ElementSize.Static n) = refl
 unknown-count ElementSize.Dynamic = refl
 unknown-count ElementSize.Unknown = refl
 
-counted_none : (s : Text) (id : Part) (e : ElementSize) (by : Reference) (m : ArraySize) → product e m ≡ 0 → product e (counted_by s id by m) ≡ 0
-counted_none s id e Reference.None m h = h
-counted_none s id e (Reference.Size of width) m h = uncounted e m (same_name s of id) ArraySize.DynamicSize (dynamic-size e) h
-counted_none s id e (Reference.Count of) m h = uncounted e m (same_name s of id) ArraySize.DynamicCount (dynamic-count e) h
-counted_none s id e (Reference.ElementSize of) m h = h
+counted_none : (s : Text) (id : Part) (e : ElementSize) (by : Option Reference) (m : ArraySize) → product e m ≡ 0 → product e (counted_by s id by m) ≡ 0
+counted_none s id e None m h = h
+counted_none s id e (Some (Reference.Size of width)) m h = uncounted e m (same_name s of id) ArraySize.DynamicSize (dynamic-size e) h
+counted_none s id e (Some (Reference.Count of)) m h = uncounted e m (same_name s of id) ArraySize.DynamicCount (dynamic-count e) h
+counted_none s id e (Some (Reference.ElementSize of)) m h = h
 
 first-none : (s : Text) (id : Part) (e : ElementSize) (fs : List Field) → product e (first_count s id fs) ≡ 0
 unfolding first_count
@@ -69,15 +68,15 @@ typed-fits Size.Unknown true count h = omega arith
 typed-fits Size.Unknown false count h = omega arith
 
 module _ (s : Text) (rows : List Row) (fs : List Field) where
-  product-fits : (id : Part) (width : MaybeNumber) (type : MaybePart) (size : MaybeNumber) → large_size (array_bits s rows fs id width type size) ≡ false
+  product-fits : (id : Part) (width : Option ℕ) (type : Option Part) (size : Option ℕ) → large_size (array_bits s rows fs id width type size) ≡ false
       → product (element_size s rows fs id width type) (array_size s fs id size) < 2 ^ 64
-  product-fits id width type MaybeNumber.None h = omega (arith, first-none s id (element_size s rows fs id width type) fs)
-  product-fits id (MaybeNumber.Some bits) type (MaybeNumber.Some count) h =
+  product-fits id width type None h = omega (arith, first-none s id (element_size s rows fs id width type) fs)
+  product-fits id (Some bits) type (Some count) h =
       omega (arith, bytes_low bits count, mul_comm bits count, ltb-false 2147483647 (count * bits) h)
-  product-fits id MaybeNumber.None (MaybePart.Some type) (MaybeNumber.Some n) h = typed-fits (total_of s rows type) (any_reference (is_element_size s id) fs) n h
-  product-fits id MaybeNumber.None MaybePart.None (MaybeNumber.Some count) h = omega arith
+  product-fits id None (Some type) (Some n) h = typed-fits (total_of s rows type) (any_reference (is_element_size s id) fs) n h
+  product-fits id None None (Some count) h = omega arith
 
-  pub array-fits : (padding : MaybeNumber) (a : ArrayField) → large_size (array_bits s rows fs a.id a.width a.type_id a.size) ≡ false
+  pub array-fits : (padding : Option ℕ) (a : ArrayField) → large_size (array_bits s rows fs a.id a.width a.type_id a.size) ≡ false
       → BlockFits (array_at s rows fs padding a)
   unfolding array_at
   array-fits padding a h = product-fits a.id a.width a.type_id a.size h

@@ -1,135 +1,97 @@
 // The arm of `parse` in cxx.rs for an array, as a value: what `parse_array_field_lite`, `parse_array_field_full` and `parse_array_element` ask of the
-// tables. The array is field k of the n that the declaration with the index i has from 64 i on; types are looked up among the declarations before it.
+// tables. The array is field k of the target; types are looked up among the declarations before it.
 #![tactic(auto)]
 
 ghost use Rattle.std.specs.Prelude.{◌≡◌, ◌<◌};
-ghost use Rattle.tables.specs.Tables.{rows_from, Tables, tables_of, rows_of, fields_of};
-ghost use Rattle.emits.specs.Target.{annotated_at, Fine};
+ghost use Rattle.tables.specs.Tables.{rows_of, fields_of};
+ghost use Rattle.emits.specs.Target.{annotated_at};
 ghost use Rattle.array_fields.specs.Arrays.{typed_element, element_at, bytes_of, array_at};
 
 use annotate::ArrayParts;
-use definitions::{EndiannessValue, EnumOf, MaybeNumber, MaybePart, Modifier, Part};
+use definitions::{EndiannessValue, EnumKind, Modifier, Part};
 use elements::Element;
-use emits::BlockAt;
+use emits::{BlockAt, Target};
+use tables::Tables;
 
 // `complete` spares no test here.
-fn typed_element(endianness: EndiannessValue, e: EnumOf) -> Element
+fn typed_element(endianness: EndiannessValue, e: Option<EnumKind>) -> Element
     ensures { result ≡ typed_element endianness e }
 {
     match e {
-        EnumOf::Enum {
-            width,
-            open,
-            complete: _,
-        } => {
-            if open {
-                return Element::OpenEnum { endianness, width };
-            }
-            Element::ClosedEnum { endianness, width }
-        }
-        EnumOf::None => Element::Parsed,
+        Some(
+            EnumKind {
+                width,
+                is_open: true,
+                ..
+            },
+        ) => Element::OpenEnum { endianness, width },
+        Some(EnumKind { width, .. }) => Element::ClosedEnum { endianness, width },
+        None => Element::Parsed,
     }
 }
 
 // How an element is read.
 fn element_of(
-    rec: &[u8],
-    rows: &[u64],
+    t: &Tables,
     i: usize,
     endianness: EndiannessValue,
-    width: MaybeNumber,
-    type_id: MaybePart,
+    width: Option<u64>,
+    type_id: Option<Part>,
 ) -> Element
-    ensures { result ≡ element_at rec.now (rows_from rows.now 0 i) endianness width type_id }
+    ensures { result ≡ element_at t.now.source (rows_of t.now i) endianness width type_id }
 {
-    match width {
-        MaybeNumber::Some(bits) => Element::Scalar {
-            endianness,
-            width: bits,
-        },
-        MaybeNumber::None => match type_id {
-            MaybePart::Some(name) => typed_element(endianness, rows::enum_of(rec, rows, i, name)),
-            MaybePart::None => Element::Parsed,
-        },
-    }
-}
-
-fn bytes_of(bits: MaybeNumber) -> MaybeNumber
-    ensures { result ≡ bytes_of bits }
-{
-    match bits {
-        MaybeNumber::None => MaybeNumber::None,
-        MaybeNumber::Some(n) => MaybeNumber::Some(n / 8),
+    match (width, type_id) {
+        (Some(width), _) => Element::Scalar { endianness, width },
+        (None, Some(name)) => typed_element(endianness, rows::enum_of(t, i, name)),
+        (None, None) => Element::Parsed,
     }
 }
 
 // `schema.padded_size` of field k, in bytes.
-fn padded_bytes(
-    rec: &[u8],
-    rows: &[u64],
-    values: &[u64],
-    fields: &[u16],
-    i: usize,
-    n: usize,
-    k: usize,
-) -> MaybeNumber
-    requires k_lt_n { k < n }
-    requires fact { let t : Tables = tables_of rec.now rows.now values.now fields.now in Fine t i n }
-    ensures { let t : Tables = tables_of rec.now rows.now values.now fields.now in
-        result ≡ bytes_of (annotated_at t i n k).padded_size }
+fn padded_bytes(t: &Target, k: usize) -> Option<u64>
+    requires { k < t.now.n }
+    ensures { result ≡ bytes_of (annotated_at t.now.tables.now t.now.i t.now.n k).padded_size }
 {
-    bytes_of(annotate::padded_size(values, fields, i, n, k))
+    annotate::padded_size(t.tables, t.i, t.n, k).map(|bits| bits / 8)
 }
 
 // The array as the record has it, and the target's byte order.
-#[derive(Clone, Copy)]
+#[derive(Clone, Copy, Debug, PartialEq, Eq)]
 pub struct ArrayField {
     pub id: Part,
-    pub width: MaybeNumber,
-    pub type_id: MaybePart,
+    pub width: Option<u64>,
+    pub type_id: Option<Part>,
     pub size_modifier: Modifier,
-    pub size: MaybeNumber,
+    pub size: Option<u64>,
     pub endianness: EndiannessValue,
 }
 
-pub fn parse_array_field(
-    rec: &[u8],
-    rows: &[u64],
-    values: &[u64],
-    fields: &[u16],
-    i: usize,
-    n: usize,
-    k: usize,
-    array: ArrayField,
-) -> BlockAt
-    requires k_lt_n { k < n }
-    requires fact { let t : Tables = tables_of rec.now rows.now values.now fields.now in Fine t i n }
-    ensures { let t : Tables = tables_of rec.now rows.now values.now fields.now in
-        result ≡ array_at t.source (rows_of t i) (fields_of t i n) (annotated_at t i n k).padded_size array }
+pub fn parse_array_field(t: &Target, k: usize, array: ArrayField) -> BlockAt
+    requires { k < t.now.n }
+    ensures { result ≡ array_at t.now.tables.now.source (rows_of t.now.tables.now t.now.i) (fields_of t.now.tables.now t.now.i t.now.n)
+        (annotated_at t.now.tables.now t.now.i t.now.n k).padded_size array }
 {
-    let id = array.id;
-    let width = array.width;
-    let type_id = array.type_id;
-    let modifier = array.size_modifier;
-    let size = array.size;
-    let endianness = array.endianness;
+    let ArrayField {
+        id,
+        width,
+        type_id,
+        size_modifier,
+        size,
+        endianness,
+    } = array;
     let parts = ArrayParts {
         id,
         width,
         type_id,
         size,
     };
-    let padding = padded_bytes(rec, rows, values, fields, i, n, k);
-    let element = element_of(rec, rows, i, endianness, width, type_id);
-    let element_size = sizes::element_size(rec, rows, values, fields, i, n, parts);
-    let array_size = references::array_size(rec, values, fields, i, n, id, size);
     BlockAt::Array {
-        padding,
+        padding: padded_bytes(t, k),
         id,
         type_id,
-        element,
-        modifier,
-        element_size,
-        array_size,
+        element: element_of(t.tables, t.i, endianness, width, type_id),
+        modifier: size_modifier,
+        element_size: sizes::element_size(t.tables, t.i, t.n, parts),
+        array_size: references::array_size(t.tables, t.i, t.n, id, size),
     }
 }

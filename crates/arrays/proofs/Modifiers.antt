@@ -2,8 +2,7 @@
 -- Assumes nothing.
 use mathlib.Core.List.{List, [], ◌++◌}
 use mathlib.Core.Path.{◌≡◌, refl, sym, ap, ◌∙◌}
-use Prim.Native.Nat.{ℕ, ◌<◌, ◌^◌}
-use lib.ListN.{length}
+use Prim.Native.Nat.{ℕ}
 use Rattle.definitions.specs.Bytes.{Text, text, decimal}
 use Rattle.definitions.specs.Lines.{Stmt, Line, render}
 use Rattle.definitions.specs.Blocks.{named, Elem, modifier_lines, parse_array_field_lite, parse_array_field_full}
@@ -13,8 +12,9 @@ use Rattle.definitions.specs.declared.Products.{Products}
 use Rattle.definitions.specs.declared.Modifier.{Modifier}
 use Rattle.definitions.specs.declared.ElementSize.{ElementSize}
 use Rattle.definitions.specs.declared.ArraySize.{ArraySize}
-use Rattle.text.specs.Put.{Put}
-use Rattle.text.proofs.Puts.{chain, like, still}
+use Rattle.text.specs.Wrote.{Wrote}
+use Rattle.text.specs.declared.Writer.{Writer}
+use Rattle.text.proofs.Wrotes.{then, alike}
 use Rattle.stream.proofs.Texts.{piece, ◌▸◌, line-leads}
 use Rattle.expressions.specs.Statements.{stmts_bytes}
 use Rattle.expressions.proofs.Follow.{follow}
@@ -24,25 +24,10 @@ use Rattle.lite_arrays.specs.Shapes.{lite_text}
 use Rattle.full_arrays.specs.Shapes.{full_text}
 use Rattle.arrays.specs.Shapes.{modified_text, modifier_text, array_text}
 
-pub modified-line : (x sign : Text) (n : ℕ) {l l₁ l₂ l₃ : Text} {i r₁ r₂ r₃ : ℕ} → Put l i (x ++ text " = ") r₁ l₁ → Put l₁ r₁ x r₂ l₂
-    → Put l₂ r₂ (sign ++ (decimal n ++ text ";\n")) r₃ l₃
-    → Put l i (modified_text x sign n) r₃ l₃
-modified-line x sign n p q t = follow (piece x ▸ piece (text " = ")) p (chain q t)
-
-module _ (m : Arrays) (id : Text) (k : Modifier) where
-  pub modifier-none : (l : Text) (i : ℕ) → k ≡ Modifier.None → length l < 2 ^ 63 → Put l i (modifier_text m id k) i l
-  unfolding modifier_text
-  modifier-none l i e h = rw e (still l i h)
-
-  pub modifier-plus : (n : ℕ) {l l₁ : Text} {i r : ℕ} → k ≡ Modifier.Plus n → Put l i (modified_text (named m id (text "_size_")) (text " - +") n) r l₁
-      → Put l i (modifier_text m id k) r l₁
-  unfolding modifier_text
-  modifier-plus n e p = rw e p
-
-  pub modifier-minus : (n : ℕ) {l l₁ : Text} {i r : ℕ} → k ≡ Modifier.Minus n → Put l i (modified_text (named m id (text "_size_")) (text " - -") n) r l₁
-      → Put l i (modifier_text m id k) r l₁
-  unfolding modifier_text
-  modifier-minus n e p = rw e p
+pub modified-line : (x sign : Text) (n : ℕ) {u u₁ u₂ u₃ : Writer} → Wrote u u₁ (x ++ text " = ") → Wrote u₁ u₂ x
+    → Wrote u₂ u₃ (sign ++ (decimal n ++ text ";\n"))
+    → Wrote u u₃ (modified_text x sign n)
+modified-line x sign n p q t = follow (piece x ▸ piece (text " = ")) p (then q t)
 
 -- the modifier before any statements
 modifier-then : (k : Modifier) (x : Text) (xs : List Stmt) → render (modifier_lines k 64 x []) ++ render xs ≡ render (modifier_lines k 64 x xs)
@@ -66,23 +51,23 @@ lite-any o id type d ElementSize.Unknown ArraySize.DynamicCount = refl
 lite-any o id type d ElementSize.Unknown ArraySize.DynamicSize = refl
 lite-any o id type d ElementSize.Unknown ArraySize.Unknown = refl
 
-module _ (o : Options) (id type : Text) (element : Element) (k : Modifier) (e : ElementSize) (n : ArraySize) {l l₁ l₂ : Text} {i r q : ℕ} where
-  pub array-lite : o.arrays ≡ Arrays.Lite → Put l i (modifier_text o.arrays id k) r l₁ → Put l₁ r (lite_text o.products id type e n) q l₂
-      → Put l i (array_text o id type element k e n) q l₂
+module _ (o : Options) (id type : Text) (element : Element) (k : Modifier) (e : ElementSize) (n : ArraySize) {u u₁ u₂ : Writer} where
+  pub array-lite : o.arrays ≡ Arrays.Lite → Wrote u u₁ (modifier_text o.arrays id k) → Wrote u₁ u₂ (lite_text o.products id type e n)
+      → Wrote u u₂ (array_text o id type element k e n)
   unfolding modifier_text lite_text array_text stmts_bytes
   array-lite h p t =
       rw h
-      (like
+      (alike
       (modifier-then k (named Arrays.Lite id (text "_size_")) (parse_array_field_lite o.products id type (Elem.parsed type) [] e n)
       ∙ ap (λ (xs : List Stmt). render (modifier_lines k 64 (named Arrays.Lite id (text "_size_")) xs))
       (lite-any o.products id type (element_of type element) e n))
-      (chain (rw h at p) t))
+      (then (rw h at p) t))
 
-  pub array-full : o.arrays ≡ Arrays.Full → Put l i (modifier_text o.arrays id k) r l₁
-      → Put l₁ r (full_text o.products id type element e n) q l₂
-      → Put l i (array_text o id type element k e n) q l₂
+  pub array-full : o.arrays ≡ Arrays.Full → Wrote u u₁ (modifier_text o.arrays id k)
+      → Wrote u₁ u₂ (full_text o.products id type element e n)
+      → Wrote u u₂ (array_text o id type element k e n)
   unfolding modifier_text full_text array_text stmts_bytes
   array-full h p t =
       rw h
-      (like (modifier-then k (named Arrays.Full id (text "_size_")) (parse_array_field_full o.products id type (element_of type element) [] e n))
-      (chain (rw h at p) t))
+      (alike (modifier-then k (named Arrays.Full id (text "_size_")) (parse_array_field_full o.products id type (element_of type element) [] e n))
+      (then (rw h at p) t))

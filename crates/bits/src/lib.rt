@@ -8,30 +8,39 @@ ghost use Rattle.definitions.specs.Refusals.{large_size};
 ghost use Rattle.definitions.specs.Tables.{encode, decode};
 ghost use Rattle.bits.specs.Capped.{cap, capped};
 
-use definitions::{MaybeNumber, Size};
+use definitions::Size;
+
+// 2^31 - 1, and what is held in place of more.
+const MOST_BITS: u64 = 2147483647;
+
+const OVER: u64 = 2147483648;
 
 // ---- a size as a number of a table; nothing is written outside the table, and 0 is read there
 
+// The numbers of the two sizes that have no bits, behind those that have.
+const DYNAMIC: u64 = 2147483648;
+
+const UNKNOWN: u64 = 2147483649;
+
+// Two functions, since `From` would have to stand in the crate of `Size`.
 fn encode(z: Size) -> u64
     ensures { result ≡ encode z }
 {
     match z {
         Size::Static(bits) => bits,
-        Size::Dynamic => 2147483648,
-        Size::Unknown => 2147483649,
+        Size::Dynamic => DYNAMIC,
+        Size::Unknown => UNKNOWN,
     }
 }
 
 fn decode(n: u64) -> Size
     ensures { result ≡ decode n }
 {
-    if n < 2147483648 {
-        return Size::Static(n);
+    match n {
+        0..=MOST_BITS => Size::Static(n),
+        DYNAMIC => Size::Dynamic,
+        _ => Size::Unknown,
     }
-    if n == 2147483648 {
-        return Size::Dynamic;
-    }
-    Size::Unknown
 }
 
 pub fn put_size(t: &mut [u64], i: usize, z: Size)
@@ -45,10 +54,7 @@ pub fn put_size(t: &mut [u64], i: usize, z: Size)
 pub fn get_size(t: &[u64], i: usize) -> Size
     ensures { result ≡ decode (get_or t.now i 0) }
 {
-    if i < t.len() {
-        return decode(t[i]);
-    }
-    decode(0)
+    decode(t.get(i).copied().unwrap_or(0))
 }
 
 // ---- sums and products
@@ -58,26 +64,18 @@ pub fn add_size(a: Size, b: Size) -> Size
     requires { static_width a + static_width b < 2 ^ 64 }
     ensures { result ≡ add_size a b }
 {
-    match a {
-        Size::Unknown => Size::Unknown,
-        Size::Dynamic => match b {
-            Size::Unknown => Size::Unknown,
-            Size::Dynamic => Size::Dynamic,
-            Size::Static(_) => Size::Dynamic,
-        },
-        Size::Static(x) => match b {
-            Size::Unknown => Size::Unknown,
-            Size::Dynamic => Size::Dynamic,
-            Size::Static(y) => Size::Static(x + y),
-        },
+    match (a, b) {
+        (Size::Unknown, _) | (_, Size::Unknown) => Size::Unknown,
+        (Size::Dynamic, _) | (_, Size::Dynamic) => Size::Dynamic,
+        (Size::Static(x), Size::Static(y)) => Size::Static(x + y),
     }
 }
 
 pub fn cap(bits: u64) -> u64
     ensures { result ≡ cap bits }
 {
-    if 2147483647 < bits {
-        return 2147483648;
+    if MOST_BITS < bits {
+        return OVER;
     }
     bits
 }
@@ -87,21 +85,14 @@ pub fn capped(z: Size) -> Size
 {
     match z {
         Size::Static(bits) => Size::Static(cap(bits)),
-        Size::Dynamic => Size::Dynamic,
-        Size::Unknown => Size::Unknown,
+        _ => z,
     }
 }
 
 pub fn product(a: u64, b: u64) -> u64
     ensures { result ≡ cap (a * b) }
 {
-    if b == 0 {
-        return 0;
-    }
-    if 2147483647 / b < a {
-        return 2147483648;
-    }
-    a * b
+    cap(a.saturating_mul(b))
 }
 
 // `impl Mul<usize> for Size`
@@ -110,8 +101,7 @@ pub fn mul_size(z: Size, n: u64) -> Size
 {
     match z {
         Size::Static(bits) => Size::Static(product(bits, n)),
-        Size::Dynamic => Size::Dynamic,
-        Size::Unknown => Size::Unknown,
+        _ => z,
     }
 }
 
@@ -124,7 +114,7 @@ pub fn add_capped(a: Size, b: Size) -> Size
 pub fn add_bits(bits: u64, z: Size) -> u64
     ensures { result ≡ cap (bits + static_width z) }
 {
-    cap(cap(bits) + cap(static_bits(z)))
+    cap(bits.saturating_add(static_bits(z)))
 }
 
 // ---- what is asked of one size
@@ -132,11 +122,7 @@ pub fn add_bits(bits: u64, z: Size) -> u64
 pub fn large_size(z: Size) -> bool
     ensures { result ≡ large_size z }
 {
-    match z {
-        Size::Static(bits) => 2147483647 < bits,
-        Size::Dynamic => false,
-        Size::Unknown => false,
-    }
+    matches!(z, Size::Static(bits) if MOST_BITS < bits)
 }
 
 pub fn static_bits(z: Size) -> u64
@@ -144,8 +130,7 @@ pub fn static_bits(z: Size) -> u64
 {
     match z {
         Size::Static(bits) => bits,
-        Size::Dynamic => 0,
-        Size::Unknown => 0,
+        _ => 0,
     }
 }
 
@@ -153,17 +138,14 @@ pub fn static_bits(z: Size) -> u64
 pub fn given(b: bool) -> Size
     ensures { result ≡ given b }
 {
-    if b {
-        return Size::Dynamic;
-    }
-    Size::Unknown
+    if b { Size::Dynamic } else { Size::Unknown }
 }
 
-pub fn outer_size(size: Size, padded: MaybeNumber) -> Size
+pub fn outer_size(size: Size, padded: Option<u64>) -> Size
     ensures { result ≡ outer_size size padded }
 {
     match padded {
-        MaybeNumber::None => size,
-        MaybeNumber::Some(bits) => Size::Static(bits),
+        None => size,
+        Some(bits) => Size::Static(bits),
     }
 }

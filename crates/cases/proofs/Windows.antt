@@ -1,4 +1,5 @@
 -- A window that is filled again (`Refilled`), and the next case in it (`last_of`, `NextAt`). Assumes nothing.
+use Rattle.std.specs.Prelude.{Some, None, Result, Ok, Err}
 use Prim.Native.Nat.{ℕ, ◌≤◌}
 use mathlib.Core.Path.{◌≡◌, refl, sym, ap, ◌∙◌, subst}
 use native.Mathlib.Nat.{zero-add}
@@ -7,13 +8,12 @@ use borrow.Author.Tests.{eq-eqb, ne_eqb}
 use lib.ListN.{length, take, drop, length-drop}
 use lib.Seq.{paste, length-paste, take-paste}
 use Rattle.definitions.specs.Bytes.{Text}
-use Rattle.definitions.specs.declared.Part.{Part}
 use Rattle.console.specs.Reads.{Filled, FilledTo}
 use Rattle.console.specs.declared.Input.{Input}
 use Rattle.cases.specs.Form.{case_at, Slid}
-use Rattle.cases.specs.Window.{Refilled, last_of, NextOf, NextAt}
-use Rattle.cases.specs.declared.Next.{Next}
-use Rattle.cases.specs.declared.Stored.{Stored}
+use Rattle.cases.specs.Window.{Refilled, Next, last_of, NextOf, NextAt}
+use Rattle.cases.specs.declared.Broken.{Broken}
+use Rattle.cases.specs.declared.Case.{Case}
 
 -- ---- what is not yet read comes to the front, and more behind it
 
@@ -53,42 +53,38 @@ module _ (b : Text) (at end : ℕ) {k : ℕ} {mid : Text} (s : Slid b at end k m
 
 -- ---- the case at the front
 
-module _ (w : Text) (end : ℕ) {s : Text} (p : s ≡ take end w) {x : Stored} (e : x ≡ case_at s 0) where
+module _ (w : Text) (end : ℕ) {s : Text} (p : s ≡ take end w) {x : Result Case Broken} (e : x ≡ case_at s 0) where
   found : x ≡ case_at (take end w) 0
   found = e ∙ ap (λ (t : Text). case_at t 0) p
 
-  pub last-case : {a : ℕ} {rec lines : Part} → x ≡ Stored.Case a rec lines → Next.Case a rec lines end ≡ last_of (case_at (take end w) 0) end
-  unfolding last_of
-  last-case h = ap (λ (y : Stored). last_of y end) (sym h ∙ found)
+  pub last-case : {case : Case} → x ≡ Ok case → Ok (Some (case, end)) ≡ last_of (case_at (take end w) 0) end
+  last-case h = ap (λ (y : Result Case Broken). last_of y end) (sym h ∙ found)
 
-  pub last-wrong : x ≡ Stored.Wrong → Next.Broken ≡ last_of (case_at (take end w) 0) end
-  unfolding last_of
-  last-wrong h = ap (λ (y : Stored). last_of y end) (sym h ∙ found)
+  pub last-wrong : x ≡ Err Broken.Wrong → Err Broken.Wrong ≡ last_of (case_at (take end w) 0) end
+  last-wrong h = ap (λ (y : Result Case Broken). last_of y end) (sym h ∙ found)
 
-  cut-is : x ≡ Stored.Cut → last_of Stored.Cut end ≡ last_of (case_at (take end w) 0) end
-  cut-is h = ap (λ (y : Stored). last_of y end) (sym h ∙ found)
+  cut-is : x ≡ Err Broken.Cut → last_of (Err Broken.Cut) end ≡ last_of (case_at (take end w) 0) end
+  cut-is h = ap (λ (y : Result Case Broken). last_of y end) (sym h ∙ found)
 
-  pub last_end : x ≡ Stored.Cut → end ≡ 0 → Next.End ≡ last_of (case_at (take end w) 0) end
-  unfolding last_of
+  pub last_end : x ≡ Err Broken.Cut → end ≡ 0 → Ok None ≡ last_of (case_at (take end w) 0) end
   last_end h z = rw (last_of, eq-eqb end 0 z) at (cut-is h)
 
-  pub last-cut : x ≡ Stored.Cut → (end ≡ 0 → ⊥) → Next.Broken ≡ last_of (case_at (take end w) 0) end
-  unfolding last_of
+  pub last-cut : x ≡ Err Broken.Cut → (end ≡ 0 → ⊥) → Err Broken.Cut ≡ last_of (case_at (take end w) 0) end
   last-cut h z = rw (last_of, ne_eqb end 0 z) at (cut-is h)
 
 -- ---- the case at a place, or at the front of what is filled again
 
-module _ (b : Text) (at end : ℕ) {s : Text} (p : s ≡ take end b) {x : Stored} (e : x ≡ case_at s at) where
-  meets : (r : Next) (left : Text) {y : Stored} → x ≡ y → NextOf y b at end r left → NextAt b at end r left
-  meets r left h n = subst (λ (z : Stored). NextOf z b at end r left) (sym h ∙ e ∙ ap (λ (t : Text). case_at t at) p) n
+module _ (b : Text) (at end : ℕ) {s : Text} (p : s ≡ take end b) {x : Result Case Broken} (e : x ≡ case_at s at) where
+  meets : (r : Next) (left : Text) {y : Result Case Broken} → x ≡ y → NextOf y b at end r left → NextAt b at end r left
+  meets r left h n = subst (λ (z : Result Case Broken). NextOf z b at end r left) (sym h ∙ e ∙ ap (λ (t : Text). case_at t at) p) n
 
-  pub next_here : {a : ℕ} {rec lines : Part} → x ≡ Stored.Case a rec lines → NextAt b at end (Next.Case a rec lines end) b
-  next_here {a} {rec} {lines} h = meets (Next.Case a rec lines end) b h (refl, refl)
+  pub next_here : {case : Case} → x ≡ Ok case → NextAt b at end (Ok (Some (case, end))) b
+  next_here {case} h = meets (Ok (Some (case, end))) b h (refl, refl)
 
-  pub next-wrong : x ≡ Stored.Wrong → NextAt b at end Next.Broken b
-  next-wrong h = meets Next.Broken b h (refl, refl)
+  pub next-wrong : x ≡ Err Broken.Wrong → NextAt b at end (Err Broken.Wrong) b
+  next-wrong h = meets (Err Broken.Wrong) b h (refl, refl)
 
-  pub next-again : x ≡ Stored.Cut → {n : ℕ} {left : Text} → Refilled b at end n left → {r : Next} → r ≡ last_of (case_at (take n left) 0) n
+  pub next-again : x ≡ Err Broken.Cut → {n : ℕ} {left : Text} → Refilled b at end n left → {r : Next} → r ≡ last_of (case_at (take n left) 0) n
       → NextAt b at end r left
   next-again h {n} {left} f {r} k = meets r left h (record { filled = n; refilled = f; next_is = k })
 

@@ -13,80 +13,73 @@ use std::io::Read;
 
 // ---- a case in a slice
 
-// A number in the line of a case: its value and the place behind the byte that ends it.
-#[derive(Clone, Copy)]
-enum Numeral {
-    Is(u64, usize),
+// Why there is no case at a place: more bytes are needed behind it, or what stands there is none.
+#[derive(Clone, Copy, Debug, PartialEq, Eq)]
+pub enum Broken {
     Cut,
     Wrong,
 }
 
 // A case: the answer, and where its record and its lines stand. The next case begins where the lines end.
-#[derive(Clone, Copy)]
-pub enum Stored {
-    Case {
-        answer: u64,
-        record: Part,
-        lines: Part,
-    },
-    Cut,
-    Wrong,
+#[derive(Clone, Copy, Debug, PartialEq, Eq)]
+pub struct Case {
+    pub answer: u64,
+    pub rec: Part,
+    pub lines: Part,
 }
 
-fn wide(b: u8) -> u64
-    ensures { result ≡ b }
-{
-    b as u64
-}
-
-// The number whose digits stand at a place, one or more, up to the byte `stop`.
+// The number whose digits stand at a place, one or more, up to the byte `stop`, and the place behind that.
 #[tactic(auto, using(crate::proofs::Numerals::numerals))]
-fn numeral_at(s: &[u8], at: usize, stop: u8) -> Numeral
+fn numeral_at(s: &[u8], at: usize, stop: u8) -> Result<(u64, usize), Broken>
     ensures { result ≡ numeral_at s.now stop at }
 {
     let mut v: u64 = 0;
-    let mut p = at;
-    while p < s.len() {
+    for p in at..s.len() {
         let b = s[p];
         if b == stop {
             if p == at {
-                return Numeral::Wrong;
+                return Err(Broken::Wrong);
             }
-            return Numeral::Is(v, p + 1);
+            return Ok((v, p + 1));
         }
-        if b < 48 {
-            return Numeral::Wrong;
+        if b < b'0' {
+            return Err(Broken::Wrong);
         }
-        if 57 < b {
-            return Numeral::Wrong;
+        if b'9' < b {
+            return Err(Broken::Wrong);
         }
         if 99999999 < v {
-            return Numeral::Wrong;
+            return Err(Broken::Wrong);
         }
-        v = v * 10 + (wide(b) - 48);
-        p += 1;
+        v = v * 10 + (b - b'0') as u64;
     }
-    Numeral::Cut
+    Err(Broken::Cut)
 }
 
 // The record and the lines that stand behind the line of a case.
 #[tactic(auto, using(crate::proofs::Numerals::parts))]
-fn parts_at(s: &[u8], at: usize, answer: u64, record_length: usize, lines_length: usize) -> Stored
+fn parts_at(
+    s: &[u8],
+    at: usize,
+    answer: u64,
+    record_length: usize,
+    lines_length: usize,
+) -> Result<Case, Broken>
     ensures { result ≡ parts_at s.now at answer record_length lines_length }
 {
     if s.len() < at {
-        return Stored::Cut;
+        return Err(Broken::Cut);
     }
     if s.len() - at < record_length {
-        return Stored::Cut;
+        return Err(Broken::Cut);
     }
     let middle = at + record_length;
     if s.len() - middle < lines_length {
-        return Stored::Cut;
+        return Err(Broken::Cut);
     }
-    Stored::Case {
+    Ok(Case {
         answer,
-        record: Part {
+        rec: Part {
             start: at,
             end: middle,
         },
@@ -94,67 +87,38 @@ fn parts_at(s: &[u8], at: usize, answer: u64, record_length: usize, lines_length
             start: middle,
             end: middle + lines_length,
         },
-    }
+    })
 }
 
 // The case that begins at a place.
-#[tactic(auto, unfolding(crate::specs::Form::on_numeral))]
-pub fn case_at(s: &[u8], at: usize) -> Stored
+pub fn case_at(s: &[u8], at: usize) -> Result<Case, Broken>
     ensures { result ≡ case_at s.now at }
 {
-    match numeral_at(s, at, 32) {
-        Numeral::Cut => Stored::Cut,
-        Numeral::Wrong => Stored::Wrong,
-        Numeral::Is(answer, behind_answer) => match numeral_at(s, behind_answer, 32) {
-            Numeral::Cut => Stored::Cut,
-            Numeral::Wrong => Stored::Wrong,
-            Numeral::Is(record_length, behind_record) => match numeral_at(s, behind_record, 10) {
-                Numeral::Cut => Stored::Cut,
-                Numeral::Wrong => Stored::Wrong,
-                Numeral::Is(lines_length, start) => parts_at(
-                    s,
-                    start,
-                    answer,
-                    record_length as usize,
-                    lines_length as usize,
-                ),
-            },
-        },
-    }
+    let (answer, p) = numeral_at(s, at, b' ')?;
+    let (record_length, q) = numeral_at(s, p, b' ')?;
+    let (lines_length, start) = numeral_at(s, q, b'\n')?;
+    parts_at(
+        s,
+        start,
+        answer,
+        record_length as usize,
+        lines_length as usize,
+    )
 }
 
 // ---- the cases of a stream
-
-// The next case of a stream, where its record and its lines stand in the window, and up to where the window is filled; or its end, or that it
-// is no stream of cases. A case that is longer than the window breaks it off too.
-#[derive(Clone, Copy)]
-pub enum Next {
-    Case {
-        answer: u64,
-        record: Part,
-        lines: Part,
-        end: usize,
-    },
-    End,
-    Broken,
-}
 
 // Moves the bytes of a buffer from `at` up to `end` to its front, as many as it has, and gives their number.
 #[tactic(auto, using(crate::proofs::Moves::slides))]
 fn slide(buf: &mut [u8], at: usize, end: usize) -> usize
     ensures { Slid buf.old at end result buf.new }
 {
-    let mut i = 0;
-    let mut p = at;
-    while p < end {
-        if buf.len() <= p {
-            return i;
-        }
-        buf[i] = buf[p];
-        i += 1;
-        p += 1;
+    let there = end.min(buf.len());
+    if there <= at {
+        return 0;
     }
-    i
+    buf.copy_within(at..there, 0);
+    there - at
 }
 
 // Moves what is not yet read, from `at` up to `end`, to the front of the window, and fills it behind that: up to where it is filled.
@@ -164,56 +128,44 @@ fn refill<R: Read>(from: &mut R, window: &mut [u8], at: usize, end: usize) -> us
 {
     let kept = slide(window, at, end);
     match console::fill(from, window, kept) {
-        Input::Full(n) => n,
-        Input::Ended(n) => n,
+        Input::Full(n) | Input::Ended(n) => n,
         Input::Failed => kept,
     }
 }
 
-// The case at the front of a window that was just filled.
+// The case at the front of a window that was just filled, and up to where it is filled; none where the stream has ended. One that is longer than the
+// window breaks it off.
 #[tactic(auto, using(crate::proofs::Windows::lasts))]
-fn front_case(window: &[u8], end: usize) -> Next
+fn front_case(window: &[u8], end: usize) -> Result<Option<(Case, usize)>, Broken>
     ensures { result ≡ last_of (case_at (take end window.now) 0) end }
 {
     match case_at(console::front(window, end), 0) {
-        Stored::Case {
-            answer,
-            record,
-            lines,
-        } => Next::Case {
-            answer,
-            record,
-            lines,
-            end,
-        },
-        Stored::Wrong => Next::Broken,
-        Stored::Cut => {
+        Ok(case) => Ok(Some((case, end))),
+        Err(Broken::Wrong) => Err(Broken::Wrong),
+        Err(Broken::Cut) => {
             if end == 0 {
-                return Next::End;
+                return Ok(None);
             }
-            Next::Broken
+            Err(Broken::Cut)
         }
     }
 }
 
-// The case that begins at `at` of the window, which is filled up to `end` from the stream before; both are 0 at the stream's start.
+// The case that begins at `at` of the window, which is filled up to `end` from the stream before, and up to where it is filled then; both are 0 at the
+// stream's start. None at the stream's end.
 #[tactic(auto, using(crate::proofs::Windows::nexts))]
-pub fn next_case<R: Read>(from: &mut R, window: &mut [u8], at: usize, end: usize) -> Next
+pub fn next_case<R: Read>(
+    from: &mut R,
+    window: &mut [u8],
+    at: usize,
+    end: usize,
+) -> Result<Option<(Case, usize)>, Broken>
     ensures { NextAt window.old at end result window.new }
 {
     match case_at(console::front(window, end), at) {
-        Stored::Case {
-            answer,
-            record,
-            lines,
-        } => Next::Case {
-            answer,
-            record,
-            lines,
-            end,
-        },
-        Stored::Wrong => Next::Broken,
-        Stored::Cut => {
+        Ok(case) => Ok(Some((case, end))),
+        Err(Broken::Wrong) => Err(Broken::Wrong),
+        Err(Broken::Cut) => {
             let filled = refill(from, window, at, end);
             front_case(window, filled)
         }

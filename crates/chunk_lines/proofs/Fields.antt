@@ -3,7 +3,7 @@
 use mathlib.Core.Bool.{Bool, true, false, ◌&&◌}
 use mathlib.Core.List.{List, [], ◌∷◌, ◌++◌, append_assoc, append-nil}
 use mathlib.Core.Path.{◌≡◌, refl, sym, ap, ◌∙◌, subst}
-use Prim.Native.Nat.{ℕ, zero, suc, ◌+◌, ◌-◌, ◌≤◌, ◌<◌, ◌^◌, min}
+use Prim.Native.Nat.{ℕ, zero, suc, ◌+◌, ◌≤◌, ◌<◌, ◌^◌, min}
 use native.Mathlib.Numerals.{add-one}
 use native.Mathlib.Decide.{dec_lt}
 use native.Mathlib.Omega.{arith}
@@ -16,21 +16,26 @@ use Rattle.definitions.specs.declared.Raw.{Raw}
 use Rattle.definitions.specs.declared.Options.{Options}
 use Rattle.definitions.proofs.Raws.{raws-most}
 use Rattle.stream.proofs.Pieces.{lines-append}
-use Rattle.text.specs.Put.{Put}
-use Rattle.text.proofs.Puts.{chain, like, still}
+use Rattle.text.specs.Wrote.{Wrote}
+use Rattle.text.specs.declared.Writer.{Writer}
+use Rattle.text.proofs.Puts.{still}
+use Rattle.text.proofs.Wrotes.{then, alike}
 use Rattle.bit_fields.specs.declared.KindAt.{KindAt}
 use Rattle.bit_fields.specs.declared.Source.{Source}
 use Rattle.bit_fields.specs.Kinds.{raw_text, kind_in, kind_text}
 use Rattle.chunk_lines.specs.declared.Chunk.{Chunk}
-use Rattle.chunk_lines.specs.declared.Held.{Held}
 use Rattle.chunk_lines.specs.declared.WholeChunk.{WholeChunk}
 use Rattle.chunk_lines.specs.Bits.{is_reserved_at, next_raw_at, held_at, all_reserved, sum_to, bit_at, bits_of, bits_text, Narrow, Fits, Closed}
 
 -- ---- reserved fields
 
--- an arm of the match
-pub reserved-arm : (k d : KindAt) (b : Bool) → k ≡ d → b ≡ is_reserved_at d → b ≡ is_reserved_at k
-reserved-arm k d b e h = h ∙ ap is_reserved_at (sym e)
+and_assoc : (a b d : Bool) → ((a && b) && d) ≡ (a && (b && d))
+and_assoc true b d = refl
+and_assoc false b d = refl
+
+and-true : (a : Bool) → (a && true) ≡ a
+and-true true = refl
+and-true false = refl
 
 pub same-reserved : (m : Arrays) (s word : Text) (k : KindAt) → is_reserved (kind_in m s word k) ≡ is_reserved_at k
 unfolding kind_in
@@ -43,9 +48,6 @@ same-reserved m s word (KindAt.FixedScalar value) = refl
 same-reserved m s word (KindAt.FixedEnum type tag) = refl
 
 -- ---- tested enums
-
-pub raw-arm : (raws : ℕ) (k d : KindAt) (n : ℕ) → k ≡ d → n ≡ next_raw_at raws d → n ≡ next_raw_at raws k
-raw-arm raws k d n e h = h ∙ ap (next_raw_at raws) (sym e)
 
 pub same-raw : (m : Arrays) (s word : Text) (raws : ℕ) (k : KindAt) → next_raw raws (kind_in m s word k) ≡ next_raw_at raws k
 unfolding kind_in
@@ -83,50 +85,16 @@ skip-raws raws (b ∷ bs) e =
 
 -- ---- which are reserved
 
-module _ (kinds : List Held) where
-  pub reserved-none : true ≡ all_reserved kinds 0
-  unfolding all_reserved
-  reserved-none = refl
-
-  step : (i : ℕ) → all_reserved kinds (i + 1) ≡ (all_reserved kinds i && is_reserved_at (held_at kinds i))
-  unfolding all_reserved
-  step i = ap (all_reserved kinds) (add-one i)
-
-  and-false : (b : Bool) → (b && false) ≡ false
-  and-false true = refl
-  and-false false = refl
-
-  module _ (i : ℕ) {b : Bool} (e : b ≡ is_reserved_at (held_at kinds i)) where
-    pub reserved-more : true ≡ all_reserved kinds i → b ≡ true → true ≡ all_reserved kinds (i + 1)
-    reserved-more h y = sym (step i ∙ ap (λ (x : Bool). x && is_reserved_at (held_at kinds i)) (sym h) ∙ sym e ∙ y)
-
-    -- one field that is not makes the answer
-    stays : (d : ℕ) → b ≡ false → all_reserved kinds (i + 1 + d) ≡ false
-    stays zero y =
-        ap (all_reserved kinds) (omega arith)
-        ∙ step i
-        ∙ ap (λ (x : Bool). all_reserved kinds i && x) (sym e ∙ y)
-        ∙ and-false (all_reserved kinds i)
-    stays (suc d) y =
-        ap (all_reserved kinds) (omega arith)
-        ∙ step (i + 1 + d)
-        ∙ ap (λ (x : Bool). x && is_reserved_at (held_at kinds (i + 1 + d))) (stays d y)
-
-    pub reserved-not : (n : ℕ) → i < n → b ≡ false → false ≡ all_reserved kinds n
-    reserved-not n h y = sym (ap (all_reserved kinds) (omega arith) ∙ stays (n - (i + 1)) y)
-
-  pub reserved-all : (i n : ℕ) → true ≡ all_reserved kinds i → i ≤ n → n ≤ i → true ≡ all_reserved kinds n
-  reserved-all i n h a b = h ∙ ap (all_reserved kinds) (omega arith)
+-- one kind more; behind the last one all are reserved
+reserved-more : (kinds : List KindAt) (n : ℕ) → all_reserved kinds (suc n) ≡ (all_reserved kinds n && is_reserved_at (held_at kinds n))
+reserved-more [] zero = refl
+reserved-more [] (suc n) = refl
+reserved-more (k ∷ kinds) zero = and-true (is_reserved_at k)
+reserved-more (k ∷ kinds) (suc n) =
+    ap (λ (b : Bool). is_reserved_at k && b) (reserved-more kinds n)
+    ∙ sym (and_assoc (is_reserved_at k) (all_reserved kinds n) (is_reserved_at (held_at kinds n)))
 
 -- ---- lists with one field more
-
-and_assoc : (a b d : Bool) → ((a && b) && d) ≡ (a && (b && d))
-and_assoc true b d = refl
-and_assoc false b d = refl
-
-and-true : (a : Bool) → (a && true) ≡ a
-and-true true = refl
-and-true false = refl
 
 skip-more : (bs : List Bit) (b : Bit) → should_skip_value (bs ++ (b ∷ [])) ≡ (should_skip_value bs && is_reserved b.kind)
 skip-more [] b = and-true (is_reserved b.kind)
@@ -151,7 +119,7 @@ bits-more m x k (d ∷ bs) b =
 
 -- ---- the chunk's fields
 
-module _ (m : Arrays) (s word : Text) (c : Chunk) (kinds : List Held) where
+module _ (m : Arrays) (s word : Text) (c : Chunk) (kinds : List KindAt) where
   pub bits-length : (n : ℕ) → length (bits_of m s word c kinds n) ≡ n
   unfolding bits_of
   bits-length zero = refl
@@ -159,12 +127,13 @@ module _ (m : Arrays) (s word : Text) (c : Chunk) (kinds : List Held) where
       length-append (bits_of m s word c kinds n) (bit_at m s word c kinds n ∷ []) ∙ ap (λ (k : ℕ). k + 1) (bits-length n) ∙ add-one n
 
   pub bits-skip : (n : ℕ) → should_skip_value (bits_of m s word c kinds n) ≡ all_reserved kinds n
-  unfolding bits_of all_reserved
+  unfolding bits_of
   bits-skip zero = refl
   bits-skip (suc n) =
       skip-more (bits_of m s word c kinds n) (bit_at m s word c kinds n)
       ∙ ap (λ (b : Bool). b && is_reserved (kind_in m s word (held_at kinds n))) (bits-skip n)
       ∙ ap (λ (b : Bool). all_reserved kinds n && b) (same-reserved m s word (held_at kinds n))
+      ∙ sym (reserved-more kinds n)
 
   pub bits-widths : (n : ℕ) → widths (bits_of m s word c kinds n) ≡ sum_to c.widths n
   unfolding bits_of sum_to
@@ -181,7 +150,7 @@ below-sum ws (suc n) i h = elim (dec_lt i n) [
   | no w ↦ (let e : i ≡ n = omega arith in omega (arith, ap (λ (k : ℕ). get_or ws k 0) e))
 ]
 
-pub closed-narrow : (c : Chunk) (kinds : List Held) (whole : WholeChunk) → Closed c kinds whole → Narrow c
+pub closed-narrow : (c : Chunk) (kinds : List KindAt) (whole : WholeChunk) → Closed c kinds whole → Narrow c
 closed-narrow c kinds whole z = record {
   short = z.short;
   narrow = λ i h. omega (arith, below-sum c.widths c.len i h, z.sum, z.small);
@@ -195,7 +164,7 @@ narrow-mask c i r z h e =
     let q : min (get_or c.widths i 0) 64 ≡ get_or c.widths i 0 = omega arith in
     e ∙ ap mask q
 
-module _ (o : Options) (s word : Text) (whole : WholeChunk) (c : Chunk) (kinds : List Held) where
+module _ (o : Options) (s word : Text) (whole : WholeChunk) (c : Chunk) (kinds : List KindAt) where
   -- the first n fields, and the tested enums up to there
   abbrev first : ℕ → List Bit
   first n = bits_of o.arrays s word c kinds n
@@ -207,9 +176,9 @@ module _ (o : Options) (s word : Text) (whole : WholeChunk) (c : Chunk) (kinds :
   text_at i raws k =
       kind_text o.arrays s word (record { raw = o.raw; nr = raws }) (Source.Bits whole.nr (get_or c.shifts i 0) k) (held_at kinds i)
 
-  pub bits_none : (out : Text) (at : ℕ) → length out < 2 ^ 63 → Put out at (bits_text o s word whole c kinds 0) at out
+  pub bits_none : (u : Writer) → length u.out.now < 2 ^ 63 → Wrote u u (bits_text o s word whole c kinds 0)
   unfolding bits_text bits_of
-  bits_none out at h = still out at h
+  bits_none u h = record { same = refl; put = still u.out.now u.at h }
 
   pub raws-none : whole.raws ≡ behind 0
   unfolding bits_of
@@ -224,15 +193,15 @@ module _ (o : Options) (s word : Text) (whole : WholeChunk) (c : Chunk) (kinds :
       ∙ lines-append 0 (bits_lines o.raw (chunk_name whole.nr) whole.raws (first i))
       (lines_of o.raw (chunk_name whole.nr) (behind i) (bit_at o.arrays s word c kinds i))
 
-  pub bits-turn : (i : ℕ) {l l₁ l₂ : Text} {at p q r raws : ℕ} → Narrow c → i < c.len → r ≡ mask (min (get_or c.widths i 0) 64) → raws ≡ behind i
-      → Put l at (bits_text o s word whole c kinds i) p l₁ → Put l₁ p (text_at i raws r) q l₂
-      → Put l at (bits_text o s word whole c kinds (i + 1)) q l₂
+  pub bits-turn : (i : ℕ) {u u₁ u₂ : Writer} {r raws : ℕ} → Narrow c → i < c.len → r ≡ mask (min (get_or c.widths i 0) 64) → raws ≡ behind i
+      → Wrote u u₁ (bits_text o s word whole c kinds i) → Wrote u₁ u₂ (text_at i raws r)
+      → Wrote u u₂ (bits_text o s word whole c kinds (i + 1))
   bits-turn i {r = r} {raws} z h e g a b =
-      like
+      alike
       (ap (λ (k : ℕ). bits_text o s word whole c kinds i ++ text_at i raws k) (narrow-mask c i r z h e)
       ∙ ap (λ (n : ℕ). bits_text o s word whole c kinds i ++ text_at i n (mask (get_or c.widths i 0))) g
       ∙ sym (more i))
-      (chain a b)
+      (then a b)
 
   pub raws-turn : (i : ℕ) {raws n : ℕ} → raws ≡ behind i → n ≡ next_raw_at raws (held_at kinds i) → n ≡ behind (i + 1)
   unfolding bits_of
@@ -248,9 +217,9 @@ module _ (o : Options) (s word : Text) (whole : WholeChunk) (c : Chunk) (kinds :
   raws-fit i e z f h =
       omega (arith, e, raws-most whole.raws (first i), bits-length o.arrays s word c kinds i, z.short, f, h)
 
-  pub bits-all : (i : ℕ) {l l₁ : Text} {at p : ℕ} → Put l at (bits_text o s word whole c kinds i) p l₁ → i ≤ c.len → c.len ≤ i
-      → Put l at (bits_text o s word whole c kinds c.len) p l₁
-  bits-all i {l} {l₁} {at} {p} x h k = subst (λ (n : ℕ). Put l at (bits_text o s word whole c kinds n) p l₁) (omega arith) x
+  pub bits-all : (i : ℕ) {u u₁ : Writer} → Wrote u u₁ (bits_text o s word whole c kinds i) → i ≤ c.len → c.len ≤ i
+      → Wrote u u₁ (bits_text o s word whole c kinds c.len)
+  bits-all i {u} {u₁} x h k = subst (λ (n : ℕ). Wrote u u₁ (bits_text o s word whole c kinds n)) (omega arith) x
 
   pub raws-all : (i : ℕ) {raws : ℕ} → raws ≡ behind i → i ≤ c.len → c.len ≤ i → raws ≡ behind c.len
   raws-all i e h k = e ∙ ap behind (omega arith)

@@ -14,22 +14,22 @@ use Rattle.definitions.specs.declared.Options.{Options}
 use Rattle.definitions.specs.declared.EndiannessValue.{EndiannessValue}
 use Rattle.stream.specs.Stream.{chunk_text}
 use Rattle.stream.proofs.Texts.{line-leads}
-use Rattle.text.specs.Put.{Put}
-use Rattle.text.proofs.Puts.{chain, like}
+use Rattle.text.specs.Wrote.{Wrote}
+use Rattle.text.specs.declared.Writer.{Writer}
+use Rattle.text.proofs.Wrotes.{then, alike}
 use Rattle.bit_fields.specs.declared.KindAt.{KindAt}
 use Rattle.bit_fields.specs.declared.Source.{Source}
 use Rattle.bit_fields.specs.Kinds.{raw_text, kind_text}
 use Rattle.chunk_lines.specs.declared.Chunk.{Chunk}
-use Rattle.chunk_lines.specs.declared.Held.{Held}
 use Rattle.chunk_lines.specs.declared.WholeChunk.{WholeChunk}
 use Rattle.chunk_lines.specs.Bits.{is_reserved_at, alone_of, bits_of, bits_text, head_text, skip_text, chunk_of, Closed}
 use Rattle.chunk_lines.proofs.Fields.{same-reserved, skip-raws, bits-length, bits-skip, bits-widths}
 
-pub head-line : (order : EndiannessValue) (nr backing w : ℕ) {l l₁ l₂ l₃ : Text} {i r₁ r₂ r₃ : ℕ}
-    → Put l i (text "uint" ++ (decimal backing ++ text "_t chunk")) r₁ l₁ → Put l₁ r₁ ([] ++ (decimal nr ++ [])) r₂ l₂
-    → Put l₂ r₂ (text " = " ++ src_text (read_of (text "span") order w) (text ";\n")) r₃ l₃ → Put l i (head_text order nr backing w) r₃ l₃
+pub head-line : (order : EndiannessValue) (nr backing w : ℕ) {u u₁ u₂ u₃ : Writer}
+    → Wrote u u₁ (text "uint" ++ (decimal backing ++ text "_t chunk")) → Wrote u₁ u₂ ([] ++ (decimal nr ++ []))
+    → Wrote u₂ u₃ (text " = " ++ src_text (read_of (text "span") order w) (text ";\n")) → Wrote u u₃ (head_text order nr backing w)
 unfolding head_text
-head-line order nr backing w p q s = like (simp append_assoc) (chain p (chain q s))
+head-line order nr backing w p q s = alike (simp append_assoc) (then p (then q s))
 
 -- two fields or more are read into a variable
 read-many : (o : Options) (nr raws w : ℕ) (bs : List Bit) → 2 ≤ length bs
@@ -50,8 +50,8 @@ module _ (o : Options) (c : blocks.Chunk) where
   read-text e = rw e
 
 -- `span.skip(N); // skip reserved fields`
-pub skip-line : (bits : ℕ) {l l₁ : Text} {i r : ℕ} → Put l i (text "span.skip(" ++ (decimal (bits / 8) ++ text "); // skip reserved fields\n")) r l₁
-    → Put l i (skip_text bits) r l₁
+pub skip-line : (bits : ℕ) {u u₁ : Writer} → Wrote u u₁ (text "span.skip(" ++ (decimal (bits / 8) ++ text "); // skip reserved fields\n"))
+    → Wrote u u₁ (skip_text bits)
 unfolding skip_text
 skip-line bits p = p
 
@@ -71,20 +71,20 @@ module _ (o : Options) (s word : Text) (raws width : ℕ) (kind : KindAt) {b : B
   width_is : width ≡ widths alone
   width_is = omega arith
 
-  pub alone-skip : b ≡ true → {l l₁ : Text} {i r : ℕ} → Put l i (skip_text width) r l₁ → (nr : ℕ) → Put l i (chunk_text o (chunk_of nr raws alone)) r l₁
+  pub alone-skip : b ≡ true → {u u₁ : Writer} → Wrote u u₁ (skip_text width) → (nr : ℕ) → Wrote u u₁ (chunk_text o (chunk_of nr raws alone))
   unfolding skip_text
-  alone-skip e p nr = like (ap skip_text width_is ∙ sym (skip-text o (chunk_of nr raws alone) (skip_is ∙ e))) p
+  alone-skip e p nr = alike (ap skip_text width_is ∙ sym (skip-text o (chunk_of nr raws alone) (skip_is ∙ e))) p
 
   abbrev text_of : ℕ → Text
   text_of k = kind_text o.arrays s word (record { raw = o.raw; nr = raws }) (Source.Read o.endianness k) kind
 
-  pub alone-read : b ≡ false → {l l₁ : Text} {i r : ℕ} → Put l i (text_of width) r l₁ → (nr : ℕ) → Put l i (chunk_text o (chunk_of nr raws alone)) r l₁
+  pub alone-read : b ≡ false → {u u₁ : Writer} → Wrote u u₁ (text_of width) → (nr : ℕ) → Wrote u u₁ (chunk_text o (chunk_of nr raws alone))
   unfolding kind_text raw_text
-  alone-read e p nr = like (ap text_of width_is ∙ sym (read-text o (chunk_of nr raws alone) (skip_is ∙ e))) p
+  alone-read e p nr = alike (ap text_of width_is ∙ sym (read-text o (chunk_of nr raws alone) (skip_is ∙ e))) p
 
 -- ---- a larger one
 
-module _ (o : Options) (s word : Text) (c : Chunk) (kinds : List Held) (whole : WholeChunk) (z : Closed c kinds whole) where
+module _ (o : Options) (s word : Text) (c : Chunk) (kinds : List KindAt) (whole : WholeChunk) (z : Closed c kinds whole) where
   abbrev fields : List Bit
   fields = bits_of o.arrays s word c kinds c.len
 
@@ -97,9 +97,9 @@ module _ (o : Options) (s word : Text) (c : Chunk) (kinds : List Held) (whole : 
   skips-as : {b : Bool} → whole.skip ≡ b → should_skip_value fields ≡ b
   skips-as e = bits-skip o.arrays s word c kinds c.len ∙ sym z.skips ∙ e
 
-  pub chunk-skip : whole.skip ≡ true → {l l₁ : Text} {i r : ℕ} → Put l i (skip_text whole.bits) r l₁ → Put l i (chunk_text o chunk) r l₁
+  pub chunk-skip : whole.skip ≡ true → {u u₁ : Writer} → Wrote u u₁ (skip_text whole.bits) → Wrote u u₁ (chunk_text o chunk)
   unfolding skip_text
-  chunk-skip e p = like (ap skip_text sum ∙ sym (skip-text o chunk (skips-as e))) p
+  chunk-skip e p = alike (ap skip_text sum ∙ sym (skip-text o chunk (skips-as e))) p
 
   -- a chunk that is skipped has no tested enum
   pub raws-skip : whole.skip ≡ true → whole.raws ≡ raws_behind whole.raws fields
@@ -111,12 +111,12 @@ module _ (o : Options) (s word : Text) (c : Chunk) (kinds : List Held) (whole : 
   abbrev rest : Text
   rest = bits_text o s word whole c kinds c.len
 
-  pub chunk-many : whole.skip ≡ false → {l l₁ l₂ : Text} {i r t : ℕ}
-      → Put l i (head_text o.endianness whole.nr whole.backing whole.bits) r l₁
-      → Put l₁ r rest t l₂ → Put l i (chunk_text o chunk) t l₂
+  pub chunk-many : whole.skip ≡ false → {u u₁ u₂ : Writer}
+      → Wrote u u₁ (head_text o.endianness whole.nr whole.backing whole.bits)
+      → Wrote u₁ u₂ rest → Wrote u u₂ (chunk_text o chunk)
   unfolding head_text bits_text
   chunk-many e p q =
-      like
+      alike
       (ap (λ (k : ℕ). head_text o.endianness whole.nr k whole.bits ++ rest) z.type
       ∙ ap (λ (k : ℕ). head_text o.endianness whole.nr (get_cxx_scalar_type k) k ++ rest) sum
       ∙ sym ((line-leads 0 (first (widths fields))).split [] rest)
@@ -124,4 +124,4 @@ module _ (o : Options) (s word : Text) (c : Chunk) (kinds : List Held) (whole : 
       (sym (read-many o whole.nr whole.raws (widths fields) fields
       (omega (arith, bits-length o.arrays s word c kinds c.len, z.more))))
       ∙ sym (read-text o chunk (skips-as e)))
-      (chain p q)
+      (then p q)

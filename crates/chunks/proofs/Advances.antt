@@ -1,5 +1,7 @@
 -- A bit field's advance, by its tests: its chunk stays open, or closes.
 -- Assumes nothing.
+use Rattle.std.specs.Prelude.{Result, Ok, Err, IfOk}
+use Rattle.definitions.specs.Refusals.{Verdict}
 use mathlib.Core.Bool.{Bool, true, false}
 use mathlib.Core.List.{List, [], ◌∷◌}
 use mathlib.Core.Path.{◌≡◌, refl, sym, ap, ◌∙◌}
@@ -7,17 +9,17 @@ use Prim.Native.Nat.{ℕ, ◌+◌, ◌%◌, ◌≤◌}
 use native.Mathlib.Omega.{arith}
 use lib.Dec.{ltb}
 use borrow.Author.Tests.{eq-eqb, ne_eqb, ltb-true, ltb-false}
-use Rattle.definitions.specs.Bytes.{Text, pick}
+use Rattle.definitions.specs.Bytes.{pick}
 use Rattle.definitions.specs.Blocks.{Bit, Kind, should_skip_value}
 use Rattle.definitions.specs.FieldParser.{next_nr}
 use Rattle.definitions.specs.declared.Options.{Options}
 use Rattle.definitions.specs.declared.Refusal.{Refusal}
-use Rattle.definitions.specs.declared.Verdict.{Verdict}
-use Rattle.text.proofs.Puts.{like}
+use Rattle.text.proofs.Wrotes.{alike}
 use Rattle.stream.specs.Stream as flow
 use Rattle.plans.specs.Told.{Advance, grown_bits, bit_advance}
-use Rattle.chunks.specs.declared.Step.{Step}
-use Rattle.chunks.specs.Steps.{closed_after, close_advance, Advanced}
+use Rattle.text.specs.declared.Writer.{Writer}
+use Rattle.chunks.specs.declared.State.{State}
+use Rattle.chunks.specs.Steps.{seen, closed_after, close_advance, verdict_of, Advanced}
 use Rattle.chunks.proofs.Closes.{wide-advance, whole-advance}
 
 -- the number goes up by one at most
@@ -32,16 +34,16 @@ next-below nr (b ∷ d ∷ bs) = picked (should_skip_value (b ∷ d ∷ bs)) nr
 
 -- the state behind a chunk that closed
 module _ (o : Options) (s : flow.State) (later : ℕ) where
-  by_width : (b : Bool) → ltb 64 s.shift ≡ b → (close_advance o s later).verdict ≡ Verdict.Pass
+  by_width : (b : Bool) → ltb 64 s.shift ≡ b → (close_advance o s later).verdict ≡ (Ok tt)
       → (close_advance o s later).after ≡ closed_after s
   by_width true e v =
-      let q : Verdict.Refuse Refusal.ScalarTooWide ≡ Verdict.Pass =
+      let q : Err Refusal.ScalarTooWide ≡ (Ok tt) =
       ap (λ (a : Advance). a.verdict) (sym (wide-advance o s later (ltb-true 64 s.shift e))) ∙ v in
       let z : ◌≡◌ {A = ℕ} 0 1 = cc in
       absurd (omega arith)
   by_width false e v = ap (λ (a : Advance). a.after) (whole-advance o s later (ltb-false 64 s.shift e))
 
-  pub closed_after_lem : (close_advance o s later).verdict ≡ Verdict.Pass
+  pub closed_after_lem : (close_advance o s later).verdict ≡ (Ok tt)
       → (close_advance o s later).after ≡ closed_after s
   closed_after_lem v = by_width (ltb 64 s.shift) refl v
 
@@ -57,7 +59,7 @@ module _ (o : Options) (s : flow.State) (kind : Kind) (width later : ℕ) where
         pending = s.pending;
       }
 
-  pub open-advance : ((s.shift + width) % 8 ≡ 0 → ⊥) → bit_advance o s kind width later ≡ record { verdict = Verdict.Pass; lines = []; after = grown }
+  pub open-advance : ((s.shift + width) % 8 ≡ 0 → ⊥) → bit_advance o s kind width later ≡ record { verdict = (Ok tt); lines = []; after = grown }
   unfolding bit_advance
   open-advance h = rw (ne_eqb _ _ h, bit_advance)
 
@@ -65,7 +67,7 @@ module _ (o : Options) (s : flow.State) (kind : Kind) (width later : ℕ) where
   record Same (a b : Advance) : Type 0 where
     verdict_is : a.verdict ≡ b.verdict
     lines_are : a.lines ≡ b.lines
-    after_is : a.verdict ≡ Verdict.Pass → a.after ≡ b.after
+    after_is : a.verdict ≡ (Ok tt) → a.after ≡ b.after
 
   by-test : (b : Bool) → ltb 64 (s.shift + width) ≡ b → (s.shift + width) % 8 ≡ 0
       → Same (close_advance o grown later) (bit_advance o s kind width later)
@@ -75,12 +77,17 @@ module _ (o : Options) (s : flow.State) (kind : Kind) (width later : ℕ) where
       (record { verdict_is = refl; lines_are = refl; after_is = λ v. absurd (let z : ◌≡◌ {A = ℕ} 0 1 = cc in omega arith) })
   by-test false e h = rw (eq-eqb _ _ h, e, bit_advance, close_advance) (record { verdict_is = refl; lines_are = refl; after_is = λ v. refl })
 
-  pub closes : (s.shift + width) % 8 ≡ 0 → {bs : List Bit} {out left : Text} {at : ℕ} {r : Step}
-      → Advanced (close_advance o grown later) bs out at r left → Advanced (bit_advance o s kind width later) bs out at r left
-  closes h d =
+  pub closes : (s.shift + width) % 8 ≡ 0 → {bs : List Bit} {u u₁ : Writer} {r : Result State Refusal}
+      → Advanced (close_advance o grown later) bs u u₁ r → Advanced (bit_advance o s kind width later) bs u u₁ r
+  closes h {bs} {r = r} d =
       let q : Same (close_advance o grown later) (bit_advance o s kind width later) = by-test (ltb 64 (s.shift + width)) refl h in
       record {
         verdict_is = d.verdict_is ∙ q.verdict_is;
-        wrote = like q.lines_are d.wrote;
-        goes_on = λ v. d.goes_on v ∙ q.after_is (sym d.verdict_is ∙ v);
+        wrote = alike q.lines_are d.wrote;
+        goes_on = on r d.verdict_is d.goes_on q.after_is;
       }
+    where
+      on : (r : Result State Refusal) {v : Verdict} {x y : flow.State} → verdict_of r ≡ v → IfOk r (λ t. seen t bs ≡ x) → (v ≡ Ok tt → x ≡ y)
+          → IfOk r (λ t. seen t bs ≡ y)
+      on (Ok t) e g f = g ∙ f (sym e)
+      on (Err why) e g f = tt

@@ -14,7 +14,6 @@ use Rattle.definitions.specs.declared.Arrays.{Arrays}
 use Rattle.bit_fields.specs.declared.KindAt.{KindAt}
 use Rattle.bit_fields.specs.Kinds.{kind_in}
 use Rattle.chunk_lines.specs.declared.Chunk.{Chunk}
-use Rattle.chunk_lines.specs.declared.Held.{Held}
 use Rattle.chunk_lines.specs.Bits.{sum_to, bit_at, bits_of}
 use Rattle.chunks.specs.Steps.{pushed}
 
@@ -35,19 +34,19 @@ module _ (ws : List ℕ) (len width : ℕ) where
       ∙ ap (λ (x : ℕ). x + get_or (set ws len width) len 0) (sum-before len (omega arith))
       ∙ ap (λ (x : ℕ). sum_to ws len + x) (get_or-set_same ws len width 0 h)
 
-module _ (m : Arrays) (s word : Text) (c : Chunk) (kinds : List Held) (kind : KindAt) (shift width : ℕ) where
+module _ (m : Arrays) (s word : Text) (c : Chunk) (kinds : List KindAt) (kind : KindAt) (shift width : ℕ) where
   abbrev d : Chunk
   d = pushed c shift width
 
-  abbrev held : List Held
-  held = set kinds c.len (record { kind = kind })
+  abbrev held : List KindAt
+  held = set kinds c.len kind
 
-  abbrev none : Held
-  none = record { kind = KindAt.Reserved }
+  abbrev none : KindAt
+  none = KindAt.Reserved
 
   -- one bit, from its shift, width and kind
-  abbrev bit : ℕ → ℕ → Held → Bit
-  bit x y z = record { shift = x; width = y; kind = kind_in m s word z.kind }
+  abbrev bit : ℕ → ℕ → KindAt → Bit
+  bit x y z = record { shift = x; width = y; kind = kind_in m s word z }
 
   before : (n : ℕ) → n ≤ c.len → bits_of m s word d held n ≡ bits_of m s word c kinds n
   unfolding bits_of
@@ -59,8 +58,8 @@ module _ (m : Arrays) (s word : Text) (c : Chunk) (kinds : List Held) (kind : Ki
       (get_or-set_other c.shifts c.len n shift 0 other)
       ∙ ap (λ (x : ℕ). bits_of m s word c kinds n ++ (bit (get_or c.shifts n 0) x (get_or held n none) ∷ []))
       (get_or-set_other c.widths c.len n width 0 other)
-      ∙ ap (λ (x : Held). bits_of m s word c kinds n ++ (bit (get_or c.shifts n 0) (get_or c.widths n 0) x ∷ []))
-      (get_or-set_other kinds c.len n (record { kind = kind }) none other)
+      ∙ ap (λ (x : KindAt). bits_of m s word c kinds n ++ (bit (get_or c.shifts n 0) (get_or c.widths n 0) x ∷ []))
+      (get_or-set_other kinds c.len n kind none other)
 
   pub grown-bits : c.len < length c.shifts → c.len < length c.widths → c.len < length kinds
       → bits_of m s word d held (c.len + 1) ≡ bits_of m s word c kinds c.len ++ (record { shift = shift; width = width; kind = kind_in m s word kind } ∷ [])
@@ -72,5 +71,5 @@ module _ (m : Arrays) (s word : Text) (c : Chunk) (kinds : List Held) (kind : Ki
       (get_or-set_same c.shifts c.len shift 0 hs)
       ∙ ap (λ (x : ℕ). bits_of m s word c kinds c.len ++ (bit shift x (get_or held c.len none) ∷ []))
       (get_or-set_same c.widths c.len width 0 hw)
-      ∙ ap (λ (x : Held). bits_of m s word c kinds c.len ++ (bit shift width x ∷ []))
-      (get_or-set_same kinds c.len (record { kind = kind }) none hk)
+      ∙ ap (λ (x : KindAt). bits_of m s word c kinds c.len ++ (bit shift width x ∷ []))
+      (get_or-set_same kinds c.len kind none hk)

@@ -1,20 +1,19 @@
 -- The code's chunk and state as the stream's, and what closing a chunk and `check_code` come to.
 -- Assumes nothing.
-use Rattle.std.specs.Prelude.{Bool, true, false, List, [], ◌++◌, ◌≡◌, ℕ, ◌+◌, ◌/◌, ◌≤◌, ◌<◌, ◌^◌, eqb, ltb, set, replicate}
-use Rattle.definitions.specs.Bytes.{Text}
+use Rattle.std.specs.Prelude.{Result, Ok, Err, IfOk, Bool, true, false, not, ◌&&◌, if◌then◌else◌, List, [], ◌++◌, ◌≡◌, ℕ, ◌+◌, ◌/◌, ◌≤◌, ◌<◌, ◌^◌, eqb, ltb, set, replicate}
+use Rattle.definitions.specs.Refusals.{Verdict}
 use Rattle.definitions.specs.Blocks.{Bit, raws_behind}
 use Rattle.definitions.specs.FieldParser.{next_nr}
 use Rattle.definitions.specs.declared.Options.{Options}
 use Rattle.definitions.specs.declared.Refusal.{Refusal}
-use Rattle.definitions.specs.declared.Verdict.{Verdict}
-use Rattle.text.specs.Put.{Put}
+use Rattle.text.specs.Wrote.{Wrote}
+use Rattle.text.specs.declared.Writer.{Writer}
 use Rattle.stream.specs.Stream.{check_text, chunk_text, chunk_at}
 use Rattle.stream.specs.Stream as flow
 use Rattle.plans.specs.Told.{Advance}
 use Rattle.chunk_lines.specs.declared.Chunk.{Chunk}
 use Rattle.chunk_lines.specs.Bits.{sum_to}
 use Rattle.chunks.specs.declared.State.{State}
-use Rattle.chunks.specs.declared.Step.{Step}
 
 -- ---- chunk and state
 
@@ -39,18 +38,11 @@ pushed c shift width =
 abbrev pub opened_state : State → ℕ → State
 opened_state t width = record { shift = t.shift + width; nr = t.nr; raws = t.raws; pending = t.pending }
 
--- a field that passes and writes nothing
-abbrev pub passed_step : ℕ → State → Step
-passed_step at t = record { verdict = Verdict.Pass; at = at; state = t }
-
 -- ---- `check_code`
 
 -- 10: lines are pending, and a chunk is open
-unfoldable pub code_verdict : Bool → ℕ → Verdict
-code_verdict pending len = elim pending [
-  | true ↦ elim (eqb len 0) [ true ↦ Verdict.Pass | false ↦ Verdict.Refuse Refusal.OpenChunk ]
-  | false ↦ Verdict.Pass
-]
+abbrev pub code_verdict : Bool → ℕ → Verdict
+code_verdict pending len = if pending && not (eqb len 0) then Err Refusal.OpenChunk else Ok tt
 
 -- ---- a chunk at an octet boundary
 
@@ -73,13 +65,16 @@ closed_after s =
 -- 12: it has more than 64 bits
 unfoldable pub close_advance : Options → flow.State → ℕ → Advance
 close_advance o s later = elim (ltb 64 s.shift) [
-  | true ↦ record { verdict = Verdict.Refuse Refusal.ScalarTooWide; lines = []; after = s }
+  | true ↦ record { verdict = Err Refusal.ScalarTooWide; lines = []; after = s }
   | false ↦ record {
-    verdict = Verdict.Pass;
+    verdict = (Ok tt);
     lines = check_text s.pending ((s.shift + later) / 8) ++ chunk_text o (chunk_at s s.chunk);
     after = closed_after s;
   }
 ]
+
+abbrev pub closed_state : ℕ → ℕ → State
+closed_state nr raws = record { shift = 0; nr = nr; raws = raws; pending = true }
 
 -- what `close` asks of a chunk: two fields or more with the bits of the state, and sums that fit
 pub record Closing (t : State) (c : Chunk) (later : ℕ) : Type 0 where
@@ -90,21 +85,15 @@ pub record Closing (t : State) (c : Chunk) (later : ℕ) : Type 0 where
   pub few : t.nr + 1 < 2 ^ 64
   pub tested : t.raws + 64 < 2 ^ 64
 
-abbrev pub wide_step : State → ℕ → Step
-wide_step t at = record { verdict = Verdict.Refuse Refusal.ScalarTooWide; at = at; state = t }
-
-abbrev pub closed_step : ℕ → ℕ → ℕ → Step
-closed_step at nr raws = record { verdict = Verdict.Pass; at = at; state = record { shift = 0; nr = nr; raws = raws; pending = true } }
-
 -- ---- what a step comes to
 
--- an advance of the stream, with these fields in the chunk behind it
-pub record Advanced (a : Advance) (bs : List Bit) (out : Text) (at : ℕ) (r : Step) (left : Text) : Type 0 where
-  pub verdict_is : r.verdict ≡ a.verdict
-  pub wrote : Put out at a.lines r.at left
-  pub goes_on : r.verdict ≡ Verdict.Pass → seen r.state bs ≡ a.after
+-- the verdict of an answer with a state
+abbrev pub verdict_of : Result State Refusal → Verdict
+verdict_of (Ok t) = Ok tt
+verdict_of (Err why) = Err why
 
--- a refusal leaves the state as it was
-pub record Stepped (t : State) (a : Advance) (bs : List Bit) (out : Text) (at : ℕ) (r : Step) (left : Text) : Type 0 where
-  pub advances : Advanced a bs out at r left
-  pub stays : (why : Refusal) → r.verdict ≡ Verdict.Refuse why → r.state ≡ t
+-- an advance of the stream, with these fields in the chunk behind it. A refusal has no state: the one before it stays
+pub record Advanced (a : Advance) (bs : List Bit) (old new : Writer) (r : Result State Refusal) : Type 0 where
+  pub verdict_is : verdict_of r ≡ a.verdict
+  pub wrote : Wrote old new a.lines
+  pub goes_on : IfOk r (λ t. seen t bs ≡ a.after)

@@ -1,4 +1,4 @@
-// Chunks and their checks: what `parse_bit_field` does to its chunk, `check_size` and `check_code` of cxx.rs, with refusals 10 and 12 of document 01.
+// Chunks and their checks: what `parse_bit_field` does to its chunk, `check_size` and `check_code` of cxx.rs, with refusals 10 and 12.
 // Chunk and state go in and come back by value; the kinds of the chunk's fields stay with the driver, which hands them over where the chunk closes.
 // A run's lines are not held back: its check is written before its first chunk, with the bits that follow in the run as `later`.
 #![tactic(auto)]
@@ -7,19 +7,19 @@ ghost use Rattle.std.specs.Prelude.{List, [], ◌≡◌, ◌+◌, ◌<◌, ◌^�
 ghost use Rattle.definitions.specs.Bytes.{text};
 ghost use Rattle.definitions.specs.Blocks.{Bit};
 ghost use Rattle.stream.specs.Stream.{check_text};
-ghost use Rattle.text.specs.Put.{Put};
+ghost use Rattle.text.specs.Wrote.{Wrote};
 ghost use Rattle.chunk_lines.specs.Bits.{alone_of, bits_of};
-ghost use Rattle.chunks.specs.Steps.{no_fields, new_state, pushed, opened_state, passed_step, next_by, wide_step, closed_step, code_verdict};
-ghost use Rattle.chunks.specs.Steps.{seen, alone_at, close_advance, Closing, Stepped};
+ghost use Rattle.chunks.specs.Steps.{no_fields, new_state, pushed, opened_state, next_by, closed_state, code_verdict};
+ghost use Rattle.chunks.specs.Steps.{seen, alone_at, close_advance, Closing, Advanced};
 
 use bit_fields::KindAt;
-use chunk_lines::{Chunk, Held, WholeChunk};
-use definitions::{Options, Refusal, Verdict};
-use text::ScalarType;
+use chunk_lines::{Chunk, WholeChunk};
+use definitions::{Options, Refusal};
+use text::Writer;
 
 // What the parser keeps beside its open chunk: the chunk's bits, the number of the next chunk that has one, how many tested enums the closed chunks have,
 // and whether the present run has its check.
-#[derive(Clone, Copy)]
+#[derive(Clone, Copy, Debug, PartialEq, Eq)]
 pub struct State {
     pub shift: u64,
     pub nr: u64,
@@ -27,39 +27,15 @@ pub struct State {
     pub pending: bool,
 }
 
-// What a field comes to: the panic, the place behind what it wrote, and the state after it.
-#[derive(Clone, Copy)]
-pub struct Step {
-    pub verdict: Verdict,
-    pub at: usize,
-    pub state: State,
-}
-
-// A field that passes and writes nothing.
-pub fn stepped(at: usize, t: State) -> Step
-    ensures { result ≡ passed_step at t }
-{
-    Step {
-        verdict: Verdict::Pass,
-        at,
-        state: t,
-    }
-}
-
 // `new`: before the first field.
-pub fn new(at: usize) -> Step
-    ensures { result ≡ passed_step at new_state }
+pub fn new() -> State
+    ensures { result ≡ new_state }
 {
-    let state = State {
+    State {
         shift: 0,
         nr: 0,
         raws: 0,
         pending: false,
-    };
-    Step {
-        verdict: Verdict::Pass,
-        at,
-        state,
     }
 }
 
@@ -82,10 +58,9 @@ pub fn push(c: Chunk, shift: u64, width: u64) -> Chunk
     ensures { result ≡ pushed c shift width }
 {
     let mut d = c;
-    let i = c.len;
-    d.shifts[i] = shift;
-    d.widths[i] = width;
-    d.len = i + 1;
+    d.shifts[c.len] = shift;
+    d.widths[c.len] = width;
+    d.len = c.len + 1;
     d
 }
 
@@ -114,9 +89,7 @@ pub fn opened(t: State, width: u64) -> State
 {
     State {
         shift: t.shift + width,
-        nr: t.nr,
-        raws: t.raws,
-        pending: t.pending,
+        ..t
     }
 }
 
@@ -127,53 +100,27 @@ fn next_nr(skip: bool, nr: u64) -> u64
     requires { nr + 1 < 2 ^ 64 }
     ensures { result ≡ next_by skip nr }
 {
-    if skip {
-        return nr;
-    }
-    nr + 1
+    if skip { nr } else { nr + 1 }
 }
 
 // `check_size`, before the first chunk of a run only.
-pub fn check_size(out: &mut [u8], at: usize, pending: bool, n: u64) -> usize
-    ensures { Put out.old at (check_text pending n) result out.new }
+pub fn check_size(w: &mut Writer, pending: bool, n: u64)
+    ensures { Wrote w.old w.new (check_text pending n) }
 {
-    if pending {
-        return at;
-    }
-    text::put_number(
-        out,
-        at,
-        b"if (span.size() < ",
-        n,
-        b") {\n    return false;\n}\n",
-    )
-}
-
-// 12
-fn too_wide(t: State, at: usize) -> Step
-    ensures { result ≡ wide_step t at }
-{
-    Step {
-        verdict: Verdict::Refuse(Refusal::ScalarTooWide),
-        at,
-        state: t,
+    if !pending {
+        w.number(b"if (span.size() < ", n, b") {\n    return false;\n}\n");
     }
 }
 
-// Its lines end at a place; the run has its check.
-fn closed(at: usize, nr: u64, raws: u64) -> Step
-    ensures { result ≡ closed_step at nr raws }
+// The state behind a chunk that closed: the run has its check.
+fn closed(nr: u64, raws: u64) -> State
+    ensures { result ≡ closed_state nr raws }
 {
-    let state = State {
+    State {
         shift: 0,
         nr,
         raws,
         pending: true,
-    };
-    Step {
-        verdict: Verdict::Pass,
-        at,
-        state,
     }
 }
 
@@ -181,75 +128,57 @@ fn closed(at: usize, nr: u64, raws: u64) -> Step
 // behind it up to the next other field.
 pub fn close_alone<'a>(
     rec: &'a [u8],
-    out: &mut [u8],
-    at: usize,
+    w: &mut Writer,
     options: Options,
     t: State,
     width: u64,
     later: u64,
     kind: KindAt,
-) -> Step
+) -> Result<State, Refusal>
     requires { (width + later < 2 ^ 64) × (t.raws + 1 < 2 ^ 64) }
     ensures { let bs : List Bit = alone_of options.arrays rec.now (text "payload") width kind in
-        Stepped t (close_advance options (alone_at t width bs) later) [] out.old at result out.new }
+        Advanced (close_advance options (alone_at t width bs) later) [] w.old w.new result }
 {
-    match text::get_cxx_scalar_type(width) {
-        ScalarType::Bits(_) => {
-            let p = check_size(out, at, t.pending, (width + later) / 8);
-            let raws = t.raws;
-            let q = chunk_lines::put_alone(rec, b"payload", out, p, options, raws, width, kind);
-            closed(q, t.nr, chunk_lines::next_raw(raws, kind))
-        }
-        ScalarType::TooWide => too_wide(t, at),
-    }
+    text::get_cxx_scalar_type(width).ok_or(Refusal::ScalarTooWide)?;
+    check_size(w, t.pending, (width + later) / 8);
+    chunk_lines::put_alone(rec, b"payload", w, options, t.raws, width, kind);
+    Ok(closed(t.nr, chunk_lines::next_raw(t.raws, kind)))
 }
 
 // A chunk of two fields or more is at an octet boundary, with the bits of the state.
 pub fn close<'a>(
     rec: &'a [u8],
-    out: &mut [u8],
-    at: usize,
+    w: &mut Writer,
     options: Options,
     t: State,
     c: Chunk,
-    kinds: [Held; 64],
+    kinds: [KindAt; 64],
     later: u64,
-) -> Step
+) -> Result<State, Refusal>
     requires { Closing t c later }
     ensures { let bs : List Bit = bits_of options.arrays rec.now (text "payload") c kinds c.len in
-        Stepped t (close_advance options (seen t bs) later) [] out.old at result out.new }
+        Advanced (close_advance options (seen t bs) later) [] w.old w.new result }
 {
-    let bits = t.shift;
-    match text::get_cxx_scalar_type(bits) {
-        ScalarType::Bits(backing) => {
-            let nr = t.nr;
-            let raws = t.raws;
-            let n = c.len;
-            let skip = chunk_lines::should_skip_value(kinds, n);
-            let whole = WholeChunk {
-                nr,
-                raws,
-                bits,
-                backing,
-                skip,
-            };
-            let p = check_size(out, at, t.pending, (bits + later) / 8);
-            let q = chunk_lines::put_chunk(rec, b"payload", out, p, options, c, kinds, whole);
-            closed(q.at, next_nr(skip, nr), q.raws)
-        }
-        ScalarType::TooWide => too_wide(t, at),
-    }
+    let backing = text::get_cxx_scalar_type(t.shift).ok_or(Refusal::ScalarTooWide)?;
+    let skip = chunk_lines::should_skip_value(&kinds[..c.len]);
+    let whole = WholeChunk {
+        nr: t.nr,
+        raws: t.raws,
+        bits: t.shift,
+        backing,
+        skip,
+    };
+    check_size(w, t.pending, (t.shift + later) / 8);
+    let raws = chunk_lines::put_chunk(rec, b"payload", w, options, c, kinds, whole);
+    Ok(closed(next_nr(skip, t.nr), raws))
 }
 
 // `check_code`, of an open chunk of so many fields: before a field that is no bit field, and at the end. The lines are written already.
-pub fn check_code(pending: bool, len: usize) -> Verdict
+pub fn check_code(pending: bool, len: usize) -> Result<(), Refusal>
     ensures { result ≡ code_verdict pending len }
 {
-    if pending {
-        if len == 0 {
-            return Verdict::Pass;
-        }
-        return Verdict::Refuse(Refusal::OpenChunk);
+    if pending && len != 0 {
+        return Err(Refusal::OpenChunk);
     }
-    Verdict::Pass
+    Ok(())
 }

@@ -1,3 +1,2 @@
 pub mod Gathers
-pub mod Looks
 pub mod Agree

@@ -1,9 +1,8 @@
 -- What reading promises: how many bytes came, where they end, and which bytes stay; and, of a reader whose bytes are known, which bytes came.
 -- Assumes nothing.
-use Rattle.std.specs.Prelude.{ℕ, ◌≤◌, ◌<◌, List, ◌≡◌, [], length, take, drop, Option}
+use Rattle.std.specs.Prelude.{ℕ, ◌≤◌, ◌<◌, List, ◌≡◌, length, take, drop, Option}
 use Rattle.std.specs.Io.KnownBytes.{Consumes, IsAtEnd}
 use Rattle.console.specs.declared.Input.{Input}
-use Rattle.console.specs.declared.Piece.{Piece}
 
 -- a buffer of `room` bytes, filled behind its first `at`: it is full, or the input ended before
 abbrev pub FilledTo : Input → ℕ → ℕ → Type 0
@@ -22,18 +21,6 @@ abbrev pub FilledFrom : Input → ℕ → Option (List ℕ) → Option (List ℕ
 FilledFrom (Input.Full n) at old new left = Consumes old new (drop at left)
 FilledFrom (Input.Ended n) at old new left = Consumes old new (drop at (take n left)) × IsAtEnd new
 FilledFrom Input.Failed at old new left = (n : ℕ) × Consumes old new (drop at (take n left))
-
--- one read of at most `room` bytes: at least one came, or the input ended or failed
-abbrev pub Came : Piece → ℕ → Type 0
-Came (Piece.Bytes n) room = (0 < n) × (n ≤ room)
-Came Piece.End room = Unit {0}
-Came Piece.Failed room = Unit {0}
-
--- the bytes that came are the first that the reader had; where there is room and none came, it has none
-abbrev pub CameFrom : Piece → Option (List ℕ) → Option (List ℕ) → List ℕ → Type 0
-CameFrom (Piece.Bytes n) old new buf = Consumes old new (take n buf)
-CameFrom Piece.End old new buf = Consumes old new [] × (0 < length buf → IsAtEnd new)
-CameFrom Piece.Failed old new buf = Consumes old new []
 
 -- some of the first bytes are gone, and no others
 abbrev pub Skips : Option (List ℕ) → Option (List ℕ) → Type 0

@@ -5,7 +5,7 @@
 
 ghost use Rattle.std.specs.Prelude.{◌≡◌, ◌+◌, ◌-◌, ◌/◌, ◌%◌, ◌^◌, min, length, take, IfOk, OnOk, false};
 ghost use Rattle.std.specs.Io.KnownBytes.{IsAtEnd};
-ghost use Rattle.console.specs.Reads.{Filled, Came, CameFrom, FilledFrom, Skips};
+ghost use Rattle.console.specs.Reads.{Filled, FilledFrom, Skips};
 ghost use Rattle.console.specs.Writes.{Writes, number_line, printed};
 
 #[cfg(test)]
@@ -18,30 +18,12 @@ use std::io::{ErrorKind, Read, Write};
 // ---- reading
 
 // What reading comes to: the buffer is filled up to its end, or the input ended before, with the end of what is held, or a read failed.
-#[derive(Clone, Copy)]
+// No `io::Result`: no caller looks at the error, and three cases are plainer than two in one.
+#[derive(Clone, Copy, Debug, PartialEq, Eq)]
 pub enum Input {
     Full(usize),
     Ended(usize),
     Failed,
-}
-
-// What one read comes to: some bytes at the front of the buffer, the end of the input, or a failure.
-#[derive(Clone, Copy)]
-enum Piece {
-    Bytes(usize),
-    End,
-    Failed,
-}
-
-fn read_once<R: Read>(from: &mut R, buf: &mut [u8]) -> Piece
-    ensures count { Came result (length buf.old) }
-    ensures bytes { CameFrom result (R.remaining from.old) (R.remaining from.new) buf.new }
-{
-    match from.read(buf) {
-        Ok(0) => Piece::End,
-        Ok(n) => Piece::Bytes(n),
-        Err(_) => Piece::Failed,
-    }
 }
 
 // Reads behind the first `at` bytes of a buffer, which stay, until it is full or the input ends.
@@ -51,14 +33,14 @@ pub fn fill<R: Read>(from: &mut R, buf: &mut [u8], at: usize) -> Input
 {
     let mut end = at;
     while end < buf.len() {
-        match read_once(from, &mut buf[end..]) {
-            Piece::Bytes(n) => {
-                end += n;
-            }
-            Piece::End => {
+        match from.read(&mut buf[end..]) {
+            Ok(0) => {
                 return Input::Ended(end);
             }
-            Piece::Failed => {
+            Ok(n) => {
+                end += n;
+            }
+            Err(_) => {
                 return Input::Failed;
             }
         }
@@ -76,7 +58,8 @@ fn drop_some<R: Read>(from: &mut R) -> io::Result<bool>
     Ok(0 < n)
 }
 
-// Reads the input to its end. A proved loop has to end, so its turns are counted down from a number that no run uses up.
+// Reads the input to its end. A proved loop has to end, so its turns are counted down from a number that no run uses up; by hand, so that wrong steps
+// of the count can be tried (must-fail).
 pub fn drain<R: Read>(from: &mut R) -> io::Result<()>
     ensures skips { Skips (R.remaining from.old) (R.remaining from.new) }
     ensures end { OnOk result (IsAtEnd (R.remaining from.new)) }
@@ -118,7 +101,7 @@ pub fn front(s: &[u8], n: usize) -> &[u8]
 }
 
 // Why a program prints nothing, or not all: its input cannot be read, or its output not written.
-#[derive(Clone, Copy)]
+#[derive(Clone, Copy, Debug, PartialEq, Eq)]
 pub enum Failure {
     Input,
     Output,

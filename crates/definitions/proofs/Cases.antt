@@ -1,7 +1,7 @@
 -- Computed tests of the definitions: P1 to P13 of document 01, as one table checked by one fact, and a second table with a case for every other
 -- refusal and for each fault that document 01 names. What is expected stands in document 01 or was printed by the Rust.
 -- Assumes nothing.
-use Rattle.std.proofs.Common.{◌≡◌, ℕ, zero, suc, ◌*◌, ◌^◌, Bool, true, false, ◌&&◌, eqb, List, [], ◌∷◌, ◌++◌, length, take, drop, replicate, refl}
+use Rattle.std.proofs.Common.{◌≡◌, ℕ, zero, suc, ◌*◌, ◌^◌, Bool, true, ◌&&◌, eqb, List, [], ◌∷◌, ◌++◌, length, take, drop, replicate, refl}
 use Prim.Native.String.{String}
 use Rattle.definitions.specs.Bytes.{Text, text, same, all}
 use Rattle.definitions.specs.Keywords.{keywords}

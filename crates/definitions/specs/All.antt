@@ -2,7 +2,7 @@
 -- front of the output buffer, joined: one for each packet and struct, in file order, a line `// target=NAME` and the lines of that target. (The card says
 -- part for a section; a `Part` here is one of the record.)
 -- Assumes nothing.
-use Rattle.std.specs.Prelude.{ℕ, true, false, List, [], ◌∷◌, ◌++◌, length, nat_lt}
+use Rattle.std.specs.Prelude.{Ok, Err, ℕ, true, false, List, [], ◌∷◌, ◌++◌, length, nat_lt}
 use Rattle.definitions.specs.Bytes.{Text, text, part}
 use Rattle.definitions.specs.Record.{Declaration, RecordRead, record_is, no_record, read_record}
 use Rattle.definitions.specs.Sizes.{Schema, new_schema}
@@ -13,7 +13,6 @@ use Rattle.definitions.specs.FieldParser.{Outcome, refused, accepted}
 use Rattle.definitions.specs.Answer.{lower_target, wrong_length, Lowered, turned_back, fitted}
 use Rattle.definitions.specs.declared.Head.{Head}
 use Rattle.definitions.specs.declared.Refusal.{Refusal}
-use Rattle.definitions.specs.declared.Verdict.{Verdict}
 
 -- ---- sections
 
@@ -67,8 +66,8 @@ lower_each s h (e ∷ es) = elim (is_frame e.row.decl.desc) [
 
 unfoldable pub all_record : Text → Head → List Declaration → Schema → Outcomes
 all_record s h ds schema = elim (verdict s h ds schema) [
-  | Verdict.Pass ↦ lower_each s h schema
-  | Verdict.Refuse why ↦ refused_all why
+  | (Ok tt) ↦ lower_each s h schema
+  | Err why ↦ refused_all why
 ]
 
 abbrev pub all_read : Text → RecordRead → Outcomes

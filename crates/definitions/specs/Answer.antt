@@ -1,7 +1,7 @@
 -- Demand 1: what `lower` answers for any bytes. The record is turned back by the first refusal that it meets, or its lines stand at the front of the
 -- output buffer, and the bytes behind them are unchanged.
 -- Assumes nothing.
-use Rattle.std.specs.Prelude.{ℕ, ◌+◌, ◌*◌, ◌^◌, Bool, true, false, ◌||◌, List, [], ◌∷◌, ◌++◌, length, drop, ◌==◌, nat_le, nat_lt}
+use Rattle.std.specs.Prelude.{Ok, Err, ℕ, ◌+◌, ◌*◌, ◌^◌, Bool, true, false, ◌||◌, List, [], ◌∷◌, ◌++◌, length, drop, ◌==◌, nat_le, nat_lt}
 use Rattle.definitions.specs.Bytes.{Text}
 use Rattle.definitions.specs.Record.{Declaration, RecordRead, record_is, no_record, read_record}
 use Rattle.definitions.specs.Sizes.{Schema, Entry, new_schema}
@@ -11,7 +11,6 @@ use Rattle.definitions.specs.Blocks.{program}
 use Rattle.definitions.specs.FieldParser.{Setting, Outcome, refused, accepted, lower_fields}
 use Rattle.definitions.specs.declared.Head.{Head}
 use Rattle.definitions.specs.declared.Refusal.{Refusal}
-use Rattle.definitions.specs.declared.Verdict.{Verdict}
 
 -- `FieldParser::new`: the record, the head's choices and the target
 abbrev pub setting_of : Text → Head → Entry → Setting
@@ -28,8 +27,8 @@ lower_in s h (e ∷ es) = elim (is_target s h e) [ true ↦ lower_target s h e |
 
 unfoldable pub lower_record : Text → Head → List Declaration → Schema → Outcome
 lower_record s h ds schema = elim (verdict s h ds schema) [
-  | Verdict.Pass ↦ lower_in s h schema
-  | Verdict.Refuse why ↦ refused why
+  | (Ok tt) ↦ lower_in s h schema
+  | Err why ↦ refused why
 ]
 
 -- 2: a line breaks the record form

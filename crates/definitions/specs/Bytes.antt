@@ -1,6 +1,7 @@
 -- Bytes, texts and numbers written as texts (document 01, module 1). A text is the list of its bytes.
 -- Assumes nothing.
 use Rattle.std.specs.Prelude.{ℕ, zero, suc, ◌+◌, ◌-◌, ◌/◌, ◌%◌, Bool, true, false, ◌&&◌, ◌||◌, List, [], ◌∷◌, ◌++◌, take, drop, ◌==◌, nat_le, nat_lt}
+use Rattle.std.specs.List.{list_any}
 use Prim.Native.Char.{code}
 use Prim.Native.String.{String}
 use Rattle.definitions.specs.declared.Part.{Part}
@@ -19,9 +20,8 @@ abbrev pub pick {ℓ} : {A : Type ℓ} → Bool → A → A → A
 pick true a b = a
 pick false a b = b
 
-abbrev pub any {ℓ} : {A : Type ℓ} → (A → Bool) → List A → Bool
-any f [] = false
-any f (x ∷ xs) = f x || any f xs
+abbrev pub any : {A : Type 0} → (A → Bool) → List A → Bool
+any = list_any
 
 abbrev pub all {ℓ} : {A : Type ℓ} → (A → Bool) → List A → Bool
 all f [] = true

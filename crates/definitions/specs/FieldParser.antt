@@ -1,19 +1,17 @@
 -- `FieldParser` of cxx.rs: the target's fields one after the other, the blocks that they emit, and refusals 10 to 14 where it panics.
 -- Assumes nothing.
-use Rattle.std.specs.Prelude.{ℕ, ◌+◌, ◌/◌, ◌%◌, Bool, true, false, ◌||◌, List, [], ◌∷◌, ◌++◌, ◌==◌, nat_lt}
+use Rattle.std.specs.Prelude.{Option, Some, None, ℕ, ◌+◌, ◌/◌, ◌%◌, Bool, true, false, ◌||◌, List, [], ◌∷◌, ◌++◌, ◌==◌, nat_lt}
 use Rattle.definitions.specs.Bytes.{Text, text, pick, any, part}
 use Rattle.definitions.specs.Sizes.{Row, Annotated, enum_of, is_bitfield, is_payload_id, has_payload_size, reference, same_name, element_size, array_size, static_width, is_array, outer_size}
 use Rattle.definitions.specs.Blocks.{Kind, Bit, Chunk, raws_behind, should_skip_value, get_cxx_scalar_type, Elem, Array, named, Block}
-use Rattle.definitions.specs.declared.EnumOf.{EnumOf}
+use Rattle.definitions.specs.declared.EnumKind.{EnumKind}
 use Rattle.definitions.specs.declared.Part.{Part}
-use Rattle.definitions.specs.declared.MaybePart.{MaybePart}
-use Rattle.definitions.specs.declared.MaybeNumber.{MaybeNumber}
 use Rattle.definitions.specs.declared.Modifier.{Modifier}
 use Rattle.definitions.specs.declared.EndiannessValue.{EndiannessValue}
 use Rattle.definitions.specs.declared.Options.{Options}
 use Rattle.definitions.specs.declared.Trailing.{Trailing}
 use Rattle.definitions.specs.declared.FieldDesc.{FieldDesc}
-use Rattle.definitions.specs.declared.Cond.{Cond}
+use Rattle.definitions.specs.declared.Condition.{Condition}
 use Rattle.definitions.specs.declared.Field.{Field}
 use Rattle.definitions.specs.declared.Size.{Size}
 use Rattle.definitions.specs.declared.Reference.{Reference}
@@ -103,9 +101,9 @@ abbrev pub field_name : Setting → Part → Text
 field_name c of = pick (is_payload_id c.source of) (text "payload") (written c of)
 
 -- `is_cond_for`: the `if` names of the target's fields
-abbrev pub is_cond_of : Text → Part → Cond → Bool
-is_cond_of s id Cond.None = false
-is_cond_of s id (Cond.Some name value) = same_name s name id
+abbrev pub is_cond_of : Text → Part → Option Condition → Bool
+is_cond_of s id None = false
+is_cond_of s id (Some cond) = same_name s cond.id id
 
 unfoldable pub is_cond_for : Setting → Part → Bool
 is_cond_for c id = any (λ (f : Field). is_cond_of c.source id f.cond) c.fields
@@ -113,9 +111,9 @@ is_cond_for c id = any (λ (f : Field). is_cond_of c.source id f.cond) c.fields
 -- ---- `parse_bit_field`
 
 -- a closed enum is tested by `IsValid`; `complete` spares the test here
-abbrev pub enum_kind : Text → Text → EnumOf → Kind
-enum_kind x type (EnumOf.Enum width is_open is_complete) = pick (is_open || is_complete) (Kind.open_enum x type) (Kind.closed_enum x type)
-enum_kind x type EnumOf.None = Kind.number x
+abbrev pub enum_kind : Text → Text → Option EnumKind → Kind
+enum_kind x type (Some kind) = pick (kind.is_open || kind.is_complete) (Kind.open_enum x type) (Kind.closed_enum x type)
+enum_kind x type None = Kind.number x
 
 -- the arms of its `match`; the kinds that are no bit field are never reached
 unfoldable pub kind_of : Setting → FieldDesc → Kind
@@ -191,7 +189,7 @@ on_boundary shift next = elim (shift == 0) [ true ↦ next | false ↦ refuses R
 
 -- an array without a condition
 abbrev pub is_array_field : Field → Bool
-is_array_field f = elim f.cond [ Cond.None ↦ is_array f.desc | Cond.Some id value ↦ false ]
+is_array_field f = elim f.cond [ None ↦ is_array f.desc | Some cond ↦ false ]
 
 -- what a later field counts: in cxx.rs its size. The language reference gives an array with a padding its padded size (document 02, Card 3)
 unfoldable pub later_size : Trailing → Annotated → Size
@@ -199,21 +197,21 @@ later_size Trailing.Plain a = a.field_size
 later_size Trailing.Padded a = pick (is_array_field a.field) (outer_size a.field_size a.padded_size) a.field_size
 
 -- `get_trailing_size`: the bits that all later fields count; none where one of them is not static
-unfoldable pub trailing_from : Trailing → ℕ → List Annotated → MaybeNumber
-trailing_from m sum [] = MaybeNumber.Some sum
+unfoldable pub trailing_from : Trailing → ℕ → List Annotated → Option ℕ
+trailing_from m sum [] = Some sum
 trailing_from m sum (a ∷ later) = elim (later_size m a) [
   | Size.Static bits ↦ trailing_from m (sum + bits) later
-  | Size.Dynamic ↦ MaybeNumber.None
-  | Size.Unknown ↦ MaybeNumber.None
+  | Size.Dynamic ↦ None
+  | Size.Unknown ↦ None
 ]
 
-abbrev pub get_trailing_size : Trailing → List Annotated → MaybeNumber
+abbrev pub get_trailing_size : Trailing → List Annotated → Option ℕ
 get_trailing_size m later = trailing_from m 0 later
 
 -- 14: a later field is not static
-abbrev pub on_trailing : MaybeNumber → (ℕ → Emit) → Emit
-on_trailing MaybeNumber.None f = refuses Refusal.MultipleUnknown
-on_trailing (MaybeNumber.Some bits) f = f bits
+abbrev pub on_trailing : Option ℕ → (ℕ → Emit) → Emit
+on_trailing None f = refuses Refusal.MultipleUnknown
+on_trailing (Some bits) f = f bits
 
 -- ---- `parse_typedef_field`: of a type that is no enum
 
@@ -234,12 +232,12 @@ parse_typedef_field c shift a id type later = on_boundary shift (typedef_by_size
 
 -- ---- `parse_optional_field`
 
-abbrev pub optional_typedef : Setting → Part → ℕ → Part → Part → EnumOf → Block
-optional_typedef c cond value id type (EnumOf.Enum width is_open is_complete) =
-    pick is_open
-    (Block.optional_open (written c cond) value c.options.endianness width (member c id) (written c type))
-    (Block.optional_closed (written c cond) value c.options.endianness width (member c id) (written c type))
-optional_typedef c cond value id type EnumOf.None = Block.optional_nested (written c cond) value (member c id) (written c type)
+abbrev pub optional_typedef : Setting → Part → ℕ → Part → Part → Option EnumKind → Block
+optional_typedef c cond value id type (Some kind) =
+    pick kind.is_open
+    (Block.optional_open (written c cond) value c.options.endianness kind.width (member c id) (written c type))
+    (Block.optional_closed (written c cond) value c.options.endianness kind.width (member c id) (written c type))
+optional_typedef c cond value id type None = Block.optional_nested (written c cond) value (member c id) (written c type)
 
 -- 13: neither scalar nor typedef
 abbrev pub unsupported : Emit
@@ -284,33 +282,33 @@ parse_payload_field_lite c shift modifier later =
 -- ---- arrays: `parse_array_field_lite`, `parse_array_field_full` and `parse_array_element` are in Blocks
 
 -- document 01, 'What the lines mean': the backing type's bits of the first size field that names the array; 64 where there is none
-abbrev pub size_bits : Text → Part → Reference → MaybeNumber
-size_bits s id Reference.None = MaybeNumber.None
-size_bits s id (Reference.Size of width) = pick (same_name s of id) (MaybeNumber.Some (get_cxx_scalar_type width)) MaybeNumber.None
-size_bits s id (Reference.Count of) = MaybeNumber.None
-size_bits s id (Reference.ElementSize of) = MaybeNumber.None
+abbrev pub size_bits : Text → Part → Option Reference → Option ℕ
+size_bits s id None = None
+size_bits s id (Some (Reference.Size of width)) = pick (same_name s of id) (Some (get_cxx_scalar_type width)) None
+size_bits s id (Some (Reference.Count of)) = None
+size_bits s id (Some (Reference.ElementSize of)) = None
 
 unfoldable pub size_backing : Text → Part → List Field → ℕ
 size_backing s id [] = 64
 size_backing s id (f ∷ fs) =
-    elim (size_bits s id (reference f.desc)) [ MaybeNumber.Some b ↦ b | MaybeNumber.None ↦ size_backing s id fs ]
+    elim (size_bits s id (reference f.desc)) [ Some b ↦ b | None ↦ size_backing s id fs ]
 
 -- the element: `complete` spares no test here
-abbrev pub typed_elem : EndiannessValue → Text → EnumOf → Elem
-typed_elem order type (EnumOf.Enum width is_open is_complete) = pick is_open (Elem.open_enum type order width) (Elem.closed_enum type order width)
-typed_elem order type EnumOf.None = Elem.parsed type
+abbrev pub typed_elem : EndiannessValue → Text → Option EnumKind → Elem
+typed_elem order type (Some kind) = pick kind.is_open (Elem.open_enum type order kind.width) (Elem.closed_enum type order kind.width)
+typed_elem order type None = Elem.parsed type
 
-abbrev pub elem_of : Setting → MaybeNumber → MaybePart → Elem
-elem_of c (MaybeNumber.Some width) type = Elem.scalar c.options.endianness width
-elem_of c MaybeNumber.None (MaybePart.Some type) = typed_elem c.options.endianness (written c type) (enum_of c.source c.scope type)
-elem_of c MaybeNumber.None MaybePart.None = Elem.parsed []
+abbrev pub elem_of : Setting → Option ℕ → Option Part → Elem
+elem_of c (Some width) type = Elem.scalar c.options.endianness width
+elem_of c None (Some type) = typed_elem c.options.endianness (written c type) (enum_of c.source c.scope type)
+elem_of c None None = Elem.parsed []
 
 -- the type's name; empty where the elements have a width
-abbrev pub type_name : Setting → MaybePart → Text
-type_name c MaybePart.None = []
-type_name c (MaybePart.Some type) = written c type
+abbrev pub type_name : Setting → Option Part → Text
+type_name c None = []
+type_name c (Some type) = written c type
 
-abbrev pub array_of : Setting → Part → MaybeNumber → MaybePart → MaybeNumber → Array
+abbrev pub array_of : Setting → Part → Option ℕ → Option Part → Option ℕ → Array
 array_of c id width type size =
     record {
       mode = c.options.arrays;
@@ -322,11 +320,11 @@ array_of c id width type size =
       elem = elem_of c width type;
     }
 
-abbrev pub with_padding : MaybeNumber → Modifier → ℕ → Array → Block
-with_padding MaybeNumber.None m w a = Block.array m w a
-with_padding (MaybeNumber.Some bits) m w a = Block.padded_array (bits / 8) m w a
+abbrev pub with_padding : Option ℕ → Modifier → ℕ → Array → Block
+with_padding None m w a = Block.array m w a
+with_padding (Some bits) m w a = Block.padded_array (bits / 8) m w a
 
-unfoldable pub parse_array_field : Setting → MaybeNumber → Part → MaybeNumber → MaybePart → Modifier → MaybeNumber → Emit
+unfoldable pub parse_array_field : Setting → Option ℕ → Part → Option ℕ → Option Part → Modifier → Option ℕ → Emit
 parse_array_field c padding id width type modifier size =
     appends (with_padding padding modifier (size_backing c.source id c.fields) (array_of c id width type size))
 
@@ -352,12 +350,12 @@ parse_other c shift a later (FieldDesc.Typedef id type) = parse_typedef_field c 
 
 -- a bit field without a condition: only these gather in a chunk
 unfoldable pub is_bit : Setting → Field → Bool
-is_bit c f = elim f.cond [ Cond.None ↦ is_bitfield c.source c.scope f.desc | Cond.Some id value ↦ false ]
+is_bit c f = elim f.cond [ None ↦ is_bitfield c.source c.scope f.desc | Some cond ↦ false ]
 
 unfoldable pub parse_unchecked : Setting → ℕ → Annotated → List Annotated → Emit
 parse_unchecked c shift a later = elim a.field.cond [
-  | Cond.None ↦ parse_other c shift a later a.field.desc
-  | Cond.Some id value ↦ parse_optional_field c id value a.field.desc
+  | None ↦ parse_other c shift a later a.field.desc
+  | Some cond ↦ parse_optional_field c cond.id cond.value a.field.desc
 ]
 
 abbrev pub emitted : FieldParser → Emit → Step

@@ -1,101 +1,85 @@
--- Document 01, 'The record': what stands at a place of the record `s`, and the place behind it. A line that breaks the form is `Wrong`, or
--- `Nothing`: refusal 2.
+-- 'The record': what stands at a place of the record `s`, and the place behind it. Where a line breaks the form nothing is read: refusal 2.
 -- Assumes nothing.
-use Rattle.std.specs.Prelude.{ℕ, zero, suc, ◌+◌, ◌-◌, ◌*◌, ◌^◌, Bool, true, false, ◌||◌, List, [], ◌∷◌, length, drop, ◌==◌, nat_lt}
+use Rattle.std.specs.Prelude.{Option, Some, None, ℕ, zero, suc, ◌+◌, ◌-◌, ◌*◌, ◌^◌, Bool, true, false, ◌||◌, List, [], ◌∷◌, length, drop, ◌==◌, nat_lt}
 use Rattle.definitions.specs.Bytes.{Text, text, is_digit, is_word}
 use Rattle.definitions.specs.declared.Part.{Part}
-use Rattle.definitions.specs.declared.MaybePart.{MaybePart}
-use Rattle.definitions.specs.declared.MaybeNumber.{MaybeNumber}
 use Rattle.definitions.specs.declared.Modifier.{Modifier}
 use Rattle.definitions.specs.declared.EndiannessValue.{EndiannessValue}
 use Rattle.definitions.specs.declared.Arrays.{Arrays}
 use Rattle.definitions.specs.declared.Head.{Head}
 use Rattle.definitions.specs.declared.FieldDesc.{FieldDesc}
-use Rattle.definitions.specs.declared.Cond.{Cond}
+use Rattle.definitions.specs.declared.Condition.{Condition}
 use Rattle.definitions.specs.declared.Field.{Field}
 use Rattle.definitions.specs.declared.DeclDesc.{DeclDesc}
 use Rattle.definitions.specs.declared.Size.{Size}
-use Rattle.definitions.specs.declared.MaybeSize.{MaybeSize}
 use Rattle.definitions.specs.declared.Decl.{Decl}
-use Rattle.definitions.specs.declared.Found.{Found}
-use Rattle.definitions.specs.declared.NumberRead.{NumberRead}
-use Rattle.definitions.specs.declared.NameRead.{NameRead}
-use Rattle.definitions.specs.declared.BitRead.{BitRead}
-use Rattle.definitions.specs.declared.ModifierRead.{ModifierRead}
-use Rattle.definitions.specs.declared.MaybeNumberRead.{MaybeNumberRead}
-use Rattle.definitions.specs.declared.MaybeSizeRead.{MaybeSizeRead}
-use Rattle.definitions.specs.declared.MaybePartRead.{MaybePartRead}
-use Rattle.definitions.specs.declared.DescRead.{DescRead}
-use Rattle.definitions.specs.declared.CondRead.{CondRead}
-use Rattle.definitions.specs.declared.FieldRead.{FieldRead}
 use Rattle.definitions.specs.declared.Trailing.{Trailing}
-use Rattle.definitions.specs.declared.TrailingRead.{TrailingRead}
 use Rattle.definitions.specs.declared.Raw.{Raw}
-use Rattle.definitions.specs.declared.RawRead.{RawRead}
 use Rattle.definitions.specs.declared.Products.{Products}
-use Rattle.definitions.specs.declared.ProductsRead.{ProductsRead}
 use Rattle.definitions.specs.declared.OptionalRead.{OptionalRead}
-use Rattle.definitions.specs.declared.HeadRead.{HeadRead}
-use Rattle.definitions.specs.declared.DeclRead.{DeclRead}
+
+-- what stands at a place, and the place behind it; nothing where the form is broken
+abbrev pub Read : Type 0 → Type 0
+Read A = Option (A × ℕ)
 
 -- ---- leaves: a fixed text, a number, a name. `at` is the place of the list's first byte
 
 -- the bytes of a text, one after the other
-unfoldable pub key_of : Text → Text → ℕ → Found
-key_of [] s at = Found.At at
-key_of (k ∷ ks) [] at = Found.Nothing
-key_of (k ∷ ks) (x ∷ s) at = elim (x == k) [ true ↦ key_of ks s (at + 1) | false ↦ Found.Nothing ]
+unfoldable pub key_of : Text → Text → ℕ → Option ℕ
+key_of [] s at = Some at
+key_of (k ∷ ks) [] at = None
+key_of (k ∷ ks) (x ∷ s) at = elim (x == k) [ true ↦ key_of ks s (at + 1) | false ↦ None ]
 
-abbrev pub key_at : Text → ℕ → Text → Found
+abbrev pub key_at : Text → ℕ → Text → Option ℕ
 key_at s at key = key_of key (drop at s) at
 
 -- the digits behind a first one, whose number so far is v: none behind a 0, the number below 2 ^ 64, then the newline
-unfoldable pub digits_of : Text → ℕ → ℕ → NumberRead
-digits_of [] v at = NumberRead.Wrong
+unfoldable pub digits_of : Text → ℕ → ℕ → Read ℕ
+digits_of [] v at = None
 digits_of (x ∷ s) v at = elim (x == 10) [
-  | true ↦ NumberRead.Is v (at + 1)
+  | true ↦ Some (v, at + 1)
   | false ↦ elim (is_digit x) [
     | true ↦ elim (v == 0) [
-      | true ↦ NumberRead.Wrong
+      | true ↦ None
       | false ↦ elim (nat_lt (v * 10 + (x - 48)) (2 ^ 64)) [
         | true ↦ digits_of s (v * 10 + (x - 48)) (at + 1)
-        | false ↦ NumberRead.Wrong
+        | false ↦ None
       ]
     ]
-    | false ↦ NumberRead.Wrong
+    | false ↦ None
   ]
 ]
 
-unfoldable pub number_of : Text → ℕ → NumberRead
-number_of [] at = NumberRead.Wrong
-number_of (x ∷ s) at = elim (is_digit x) [ true ↦ digits_of s (x - 48) (at + 1) | false ↦ NumberRead.Wrong ]
+unfoldable pub number_of : Text → ℕ → Read ℕ
+number_of [] at = None
+number_of (x ∷ s) at = elim (is_digit x) [ true ↦ digits_of s (x - 48) (at + 1) | false ↦ None ]
 
-abbrev pub number_at : Text → ℕ → NumberRead
+abbrev pub number_at : Text → ℕ → Read ℕ
 number_at s at = number_of (drop at s) at
 
 abbrev pub part_of : ℕ → ℕ → Part
 part_of from to = record { start = from; end = to }
 
 -- the word bytes up to the newline, of which n went before, from `start` on: at most 32
-unfoldable pub word_of : Text → ℕ → ℕ → ℕ → NameRead
-word_of [] start n at = NameRead.Wrong
+unfoldable pub word_of : Text → ℕ → ℕ → ℕ → Read Part
+word_of [] start n at = None
 word_of (x ∷ s) start n at = elim (x == 10) [
-  | true ↦ NameRead.Is (part_of start at) (at + 1)
+  | true ↦ Some (part_of start at, at + 1)
   | false ↦ elim (n == 32) [
-    | true ↦ NameRead.Wrong
-    | false ↦ elim (is_word x) [ true ↦ word_of s start (n + 1) (at + 1) | false ↦ NameRead.Wrong ]
+    | true ↦ None
+    | false ↦ elim (is_word x) [ true ↦ word_of s start (n + 1) (at + 1) | false ↦ None ]
   ]
 ]
 
 -- a word that begins with no digit, and is not empty
-unfoldable pub name_of : Text → ℕ → NameRead
-name_of [] at = NameRead.Wrong
+unfoldable pub name_of : Text → ℕ → Read Part
+name_of [] at = None
 name_of (x ∷ s) at =
-    elim (is_digit x) [ true ↦ NameRead.Wrong | false ↦ elim (x == 10) [ true ↦ NameRead.Wrong | false ↦ word_of (x ∷ s) at 0 at ] ]
+    elim (is_digit x) [ true ↦ None | false ↦ elim (x == 10) [ true ↦ None | false ↦ word_of (x ∷ s) at 0 at ] ]
 
-abbrev pub is_found : Found → Bool
-is_found (Found.At p) = true
-is_found Found.Nothing = false
+abbrev pub is_found : Option ℕ → Bool
+is_found (Some p) = true
+is_found None = false
 
 -- digits up to the newline
 unfoldable pub digits_line : Text → Bool
@@ -107,220 +91,172 @@ unfoldable pub some_digits : Text → Bool
 some_digits [] = false
 some_digits (x ∷ s) = elim (is_digit x) [ true ↦ digits_line s | false ↦ false ]
 
-abbrev pub digits_behind : Text → Found → Bool
-digits_behind s Found.Nothing = false
-digits_behind s (Found.At p) = some_digits (drop p s)
+abbrev pub digits_behind : Text → Option ℕ → Bool
+digits_behind s None = false
+digits_behind s (Some p) = some_digits (drop p s)
 
 -- the line from `at` on is `span`, `output` or `chunk` with digits behind it
 unfoldable pub is_forbidden : Text → ℕ → Bool
 is_forbidden s at =
     is_found (key_at s at (text "span\n")) || is_found (key_at s at (text "output\n")) || digits_behind s (key_at s at (text "chunk"))
 
-unfoldable pub name_at : Text → ℕ → NameRead
-name_at s at = elim (is_forbidden s at) [ true ↦ NameRead.Wrong | false ↦ name_of (drop at s) at ]
+unfoldable pub name_at : Text → ℕ → Read Part
+name_at s at = elim (is_forbidden s at) [ true ↦ None | false ↦ name_of (drop at s) at ]
 
 -- ---- what follows an answer: `bad` where nothing was read, else f of what was read and the place behind it
 
-module _ {ℓ} {A : Type ℓ} where
-  abbrev pub on_found : Found → A → (ℕ → A) → A
-  on_found (Found.At p) bad f = f p
-  on_found Found.Nothing bad f = bad
+module _ {ℓ} {A : Type ℓ} {B : Type 0} where
+  abbrev pub on_found : Option B → A → (B → A) → A
+  on_found (Some x) bad f = f x
+  on_found None bad f = bad
 
-  abbrev pub on_number : NumberRead → A → (ℕ → ℕ → A) → A
-  on_number (NumberRead.Is n p) bad f = f n p
-  on_number NumberRead.Wrong bad f = bad
-
-  abbrev pub on_name : NameRead → A → (Part → ℕ → A) → A
-  on_name (NameRead.Is n p) bad f = f n p
-  on_name NameRead.Wrong bad f = bad
-
-  abbrev pub on_bit : BitRead → A → (Bool → ℕ → A) → A
-  on_bit (BitRead.Is b p) bad f = f b p
-  on_bit BitRead.Wrong bad f = bad
-
-  abbrev pub on_modifier : ModifierRead → A → (Modifier → ℕ → A) → A
-  on_modifier (ModifierRead.Is m p) bad f = f m p
-  on_modifier ModifierRead.Wrong bad f = bad
-
-  abbrev pub on_maybe_number : MaybeNumberRead → A → (MaybeNumber → ℕ → A) → A
-  on_maybe_number (MaybeNumberRead.Is n p) bad f = f n p
-  on_maybe_number MaybeNumberRead.Wrong bad f = bad
-
-  abbrev pub on_maybe_size : MaybeSizeRead → A → (MaybeSize → ℕ → A) → A
-  on_maybe_size (MaybeSizeRead.Is n p) bad f = f n p
-  on_maybe_size MaybeSizeRead.Wrong bad f = bad
-
-  abbrev pub on_maybe_part : MaybePartRead → A → (MaybePart → ℕ → A) → A
-  on_maybe_part (MaybePartRead.Is n p) bad f = f n p
-  on_maybe_part MaybePartRead.Wrong bad f = bad
-
-  abbrev pub on_part : MaybePart → A → (Part → A) → A
-  on_part (MaybePart.Some n) absent f = f n
-  on_part MaybePart.None absent f = absent
-
-  abbrev pub on_desc : DescRead → A → (FieldDesc → ℕ → A) → A
-  on_desc (DescRead.Is d p) bad f = f d p
-  on_desc DescRead.Wrong bad f = bad
-
-  abbrev pub on_cond : CondRead → A → (Cond → ℕ → A) → A
-  on_cond (CondRead.Is c p) bad f = f c p
-  on_cond CondRead.Wrong bad f = bad
-
-  abbrev pub on_field : FieldRead → A → (Field → ℕ → A) → A
-  on_field (FieldRead.Is x p) bad f = f x p
-  on_field FieldRead.Wrong bad f = bad
-
-  abbrev pub on_head : HeadRead → A → (Head → ℕ → A) → A
-  on_head (HeadRead.Is h p) bad f = f h p
-  on_head HeadRead.Wrong bad f = bad
-
-  abbrev pub on_decl : DeclRead → A → (Decl → ℕ → A) → A
-  on_decl (DeclRead.Is d p) bad f = f d p
-  on_decl DeclRead.Wrong bad f = bad
+  abbrev pub on_read : Read B → A → (B → ℕ → A) → A
+  on_read (Some (x, p)) bad f = f x p
+  on_read None bad f = bad
 
 -- ---- lines: a key with its `=`, and a value up to the newline. `-` is absent
 
-unfoldable pub number_line : Text → ℕ → Text → NumberRead
-number_line s at key = on_found (key_at s at key) NumberRead.Wrong λ p. number_at s p
+abbrev pub number_line : Text → ℕ → Text → Read ℕ
+number_line s at key = on_found (key_at s at key) None λ p. number_at s p
 
-unfoldable pub name_line : Text → ℕ → Text → NameRead
-name_line s at key = on_found (key_at s at key) NameRead.Wrong λ p. name_at s p
+unfoldable pub name_line : Text → ℕ → Text → Read Part
+name_line s at key = on_found (key_at s at key) None λ p. name_at s p
 
-abbrev pub bit_at : Text → ℕ → BitRead
+abbrev pub bit_at : Text → ℕ → Read Bool
 bit_at s at =
-    on_found (key_at s at (text "0\n")) (on_found (key_at s at (text "1\n")) BitRead.Wrong λ p. BitRead.Is true p) λ p. BitRead.Is false p
+    on_found (key_at s at (text "0\n")) (on_found (key_at s at (text "1\n")) None λ p. Some (true, p)) λ p. Some (false, p)
 
-unfoldable pub bit_line : Text → ℕ → Text → BitRead
-bit_line s at key = on_found (key_at s at key) BitRead.Wrong λ p. bit_at s p
+abbrev pub bit_line : Text → ℕ → Text → Read Bool
+bit_line s at key = on_found (key_at s at key) None λ p. bit_at s p
 
-abbrev pub maybe_number_at : Text → ℕ → MaybeNumberRead
+abbrev pub maybe_number_at : Text → ℕ → Read (Option ℕ)
 maybe_number_at s at =
     on_found (key_at s at (text "-\n"))
-    (on_number (number_at s at) MaybeNumberRead.Wrong λ n p. MaybeNumberRead.Is (MaybeNumber.Some n) p)
-    λ p. MaybeNumberRead.Is MaybeNumber.None p
+    (on_read (number_at s at) None λ n p. Some (Some n, p))
+    λ p. Some (None, p)
 
-unfoldable pub maybe_number_line : Text → ℕ → Text → MaybeNumberRead
-maybe_number_line s at key = on_found (key_at s at key) MaybeNumberRead.Wrong λ p. maybe_number_at s p
+abbrev pub maybe_number_line : Text → ℕ → Text → Read (Option ℕ)
+maybe_number_line s at key = on_found (key_at s at key) None λ p. maybe_number_at s p
 
-abbrev pub maybe_name_at : Text → ℕ → MaybePartRead
+abbrev pub maybe_name_at : Text → ℕ → Read (Option Part)
 maybe_name_at s at =
     on_found (key_at s at (text "-\n"))
-    (on_name (name_at s at) MaybePartRead.Wrong λ n p. MaybePartRead.Is (MaybePart.Some n) p)
-    λ p. MaybePartRead.Is MaybePart.None p
+    (on_read (name_at s at) None λ n p. Some (Some n, p))
+    λ p. Some (None, p)
 
-unfoldable pub maybe_name_line : Text → ℕ → Text → MaybePartRead
-maybe_name_line s at key = on_found (key_at s at key) MaybePartRead.Wrong λ p. maybe_name_at s p
+unfoldable pub maybe_name_line : Text → ℕ → Text → Read (Option Part)
+maybe_name_line s at key = on_found (key_at s at key) None λ p. maybe_name_at s p
 
 -- a sign and a number
-abbrev pub plus_at : Text → ℕ → ModifierRead
+abbrev pub plus_at : Text → ℕ → Read Modifier
 plus_at s at =
-    on_found (key_at s at (text "+")) ModifierRead.Wrong λ p.
-    on_number (number_at s p) ModifierRead.Wrong λ n q. ModifierRead.Is (Modifier.Plus n) q
+    on_found (key_at s at (text "+")) None λ p.
+    on_read (number_at s p) None λ n q. Some (Modifier.Plus n, q)
 
-abbrev pub minus_at : Text → ℕ → ModifierRead
+abbrev pub minus_at : Text → ℕ → Read Modifier
 minus_at s at =
     on_found (key_at s at (text "-")) (plus_at s at) λ p.
-    on_number (number_at s p) ModifierRead.Wrong λ n q. ModifierRead.Is (Modifier.Minus n) q
+    on_read (number_at s p) None λ n q. Some (Modifier.Minus n, q)
 
-abbrev pub modifier_at : Text → ℕ → ModifierRead
-modifier_at s at = on_found (key_at s at (text "-\n")) (minus_at s at) λ p. ModifierRead.Is Modifier.None p
+abbrev pub modifier_at : Text → ℕ → Read Modifier
+modifier_at s at = on_found (key_at s at (text "-\n")) (minus_at s at) λ p. Some (Modifier.None, p)
 
-unfoldable pub modifier_line : Text → ℕ → Text → ModifierRead
-modifier_line s at key = on_found (key_at s at key) ModifierRead.Wrong λ p. modifier_at s p
+abbrev pub modifier_line : Text → ℕ → Text → Read Modifier
+modifier_line s at key = on_found (key_at s at key) None λ p. modifier_at s p
 
 -- a size in bits, or what else `Schema` gives (document 02, Card 10)
-abbrev pub stated_at : Text → ℕ → MaybeSizeRead
+abbrev pub stated_at : Text → ℕ → Read (Option Size)
 stated_at s at =
     on_found (key_at s at (text "dynamic\n"))
     (on_found (key_at s at (text "unknown\n"))
-    (on_number (number_at s at) MaybeSizeRead.Wrong λ n p. MaybeSizeRead.Is (MaybeSize.Some (Size.Static n)) p)
-    λ p. MaybeSizeRead.Is (MaybeSize.Some Size.Unknown) p)
-    λ p. MaybeSizeRead.Is (MaybeSize.Some Size.Dynamic) p
+    (on_read (number_at s at) None λ n p. Some (Some (Size.Static n), p))
+    λ p. Some (Some Size.Unknown, p))
+    λ p. Some (Some Size.Dynamic, p)
 
 -- a line that need not be there
-unfoldable pub bits_line : Text → ℕ → MaybeSizeRead
-bits_line s at = on_found (key_at s at (text "bits=")) (MaybeSizeRead.Is MaybeSize.None at) λ p. stated_at s p
+abbrev pub bits_line : Text → ℕ → Read (Option Size)
+bits_line s at = on_found (key_at s at (text "bits=")) (Some (None, at)) λ p. stated_at s p
 
 -- ---- a field: its kind's keys, then `if` and `is`
 
 -- a name under a key, and a width
-abbrev pub named_width : Text → (Part → ℕ → FieldDesc) → Text → ℕ → DescRead
+abbrev pub named_width : Text → (Part → ℕ → FieldDesc) → Text → ℕ → Read FieldDesc
 named_width key desc s at =
-    on_name (name_line s at key) DescRead.Wrong λ name p.
-    on_number (number_line s p (text "width=")) DescRead.Wrong λ width q. DescRead.Is (desc name width) q
+    on_read (name_line s at key) None λ name p.
+    on_read (number_line s p (text "width=")) None λ width q. Some (desc name width, q)
 
-unfoldable pub scalar_at : Text → ℕ → DescRead
+unfoldable pub scalar_at : Text → ℕ → Read FieldDesc
 scalar_at s at = named_width (text "id=") FieldDesc.Scalar s at
 
-unfoldable pub size_at : Text → ℕ → DescRead
+unfoldable pub size_at : Text → ℕ → Read FieldDesc
 size_at s at = named_width (text "of=") FieldDesc.Size s at
 
-unfoldable pub count_at : Text → ℕ → DescRead
+unfoldable pub count_at : Text → ℕ → Read FieldDesc
 count_at s at = named_width (text "of=") FieldDesc.Count s at
 
-unfoldable pub element_size_at : Text → ℕ → DescRead
+unfoldable pub element_size_at : Text → ℕ → Read FieldDesc
 element_size_at s at = named_width (text "of=") FieldDesc.ElementSize s at
 
-unfoldable pub fixed_scalar_at : Text → ℕ → DescRead
+unfoldable pub fixed_scalar_at : Text → ℕ → Read FieldDesc
 fixed_scalar_at s at =
-    on_number (number_line s at (text "width=")) DescRead.Wrong λ width p.
-    on_number (number_line s p (text "value=")) DescRead.Wrong λ value q. DescRead.Is (FieldDesc.FixedScalar width value) q
+    on_read (number_line s at (text "width=")) None λ width p.
+    on_read (number_line s p (text "value=")) None λ value q. Some (FieldDesc.FixedScalar width value, q)
 
-unfoldable pub fixed_enum_at : Text → ℕ → DescRead
+unfoldable pub fixed_enum_at : Text → ℕ → Read FieldDesc
 fixed_enum_at s at =
-    on_name (name_line s at (text "type=")) DescRead.Wrong λ type p.
-    on_name (name_line s p (text "tag=")) DescRead.Wrong λ tag q. DescRead.Is (FieldDesc.FixedEnum type tag) q
+    on_read (name_line s at (text "type=")) None λ type p.
+    on_read (name_line s p (text "tag=")) None λ tag q. Some (FieldDesc.FixedEnum type tag, q)
 
-unfoldable pub reserved_at : Text → ℕ → DescRead
-reserved_at s at = on_number (number_line s at (text "width=")) DescRead.Wrong λ width p. DescRead.Is (FieldDesc.Reserved width) p
+unfoldable pub reserved_at : Text → ℕ → Read FieldDesc
+reserved_at s at = on_read (number_line s at (text "width=")) None λ width p. Some (FieldDesc.Reserved width, p)
 
-unfoldable pub flag_at : Text → ℕ → DescRead
-flag_at s at = on_name (name_line s at (text "id=")) DescRead.Wrong λ id p. DescRead.Is (FieldDesc.Flag id) p
+unfoldable pub flag_at : Text → ℕ → Read FieldDesc
+flag_at s at = on_read (name_line s at (text "id=")) None λ id p. Some (FieldDesc.Flag id, p)
 
-unfoldable pub typedef_at : Text → ℕ → DescRead
+unfoldable pub typedef_at : Text → ℕ → Read FieldDesc
 typedef_at s at =
-    on_name (name_line s at (text "id=")) DescRead.Wrong λ id p.
-    on_name (name_line s p (text "type=")) DescRead.Wrong λ type q. DescRead.Is (FieldDesc.Typedef id type) q
+    on_read (name_line s at (text "id=")) None λ id p.
+    on_read (name_line s p (text "type=")) None λ type q. Some (FieldDesc.Typedef id type, q)
 
 -- exactly one of width and type is absent
-abbrev pub one_array : Part → MaybeNumber → MaybePart → Modifier → MaybeNumber → ℕ → DescRead
-one_array id MaybeNumber.None MaybePart.None modifier size p = DescRead.Wrong
-one_array id MaybeNumber.None (MaybePart.Some type) modifier size p =
-    DescRead.Is (FieldDesc.Array id MaybeNumber.None (MaybePart.Some type) modifier size) p
-one_array id (MaybeNumber.Some width) MaybePart.None modifier size p =
-    DescRead.Is (FieldDesc.Array id (MaybeNumber.Some width) MaybePart.None modifier size) p
-one_array id (MaybeNumber.Some width) (MaybePart.Some type) modifier size p = DescRead.Wrong
+abbrev pub one_array : Part → Option ℕ → Option Part → Modifier → Option ℕ → ℕ → Read FieldDesc
+one_array id None None modifier size p = None
+one_array id None (Some type) modifier size p =
+    Some (FieldDesc.Array id None (Some type) modifier size, p)
+one_array id (Some width) None modifier size p =
+    Some (FieldDesc.Array id (Some width) None modifier size, p)
+one_array id (Some width) (Some type) modifier size p = None
 
-unfoldable pub array_rest : Text → ℕ → Part → MaybeNumber → MaybePart → DescRead
+unfoldable pub array_rest : Text → ℕ → Part → Option ℕ → Option Part → Read FieldDesc
 array_rest s at id width type =
-    on_modifier (modifier_line s at (text "mod=")) DescRead.Wrong λ modifier p.
-    on_maybe_number (maybe_number_line s p (text "count=")) DescRead.Wrong λ count q. one_array id width type modifier count q
+    on_read (modifier_line s at (text "mod=")) None λ modifier p.
+    on_read (maybe_number_line s p (text "count=")) None λ count q. one_array id width type modifier count q
 
-unfoldable pub array_at : Text → ℕ → DescRead
+unfoldable pub array_at : Text → ℕ → Read FieldDesc
 array_at s at =
-    on_name (name_line s at (text "id=")) DescRead.Wrong λ id p.
-    on_maybe_number (maybe_number_line s p (text "width=")) DescRead.Wrong λ width q.
-    on_maybe_part (maybe_name_line s q (text "type=")) DescRead.Wrong λ type r. array_rest s r id width type
+    on_read (name_line s at (text "id=")) None λ id p.
+    on_read (maybe_number_line s p (text "width=")) None λ width q.
+    on_read (maybe_name_line s q (text "type=")) None λ type r. array_rest s r id width type
 
-unfoldable pub payload_at : Text → ℕ → DescRead
-payload_at s at = on_modifier (modifier_line s at (text "mod=")) DescRead.Wrong λ modifier p. DescRead.Is (FieldDesc.Payload modifier) p
+unfoldable pub payload_at : Text → ℕ → Read FieldDesc
+payload_at s at = on_read (modifier_line s at (text "mod=")) None λ modifier p. Some (FieldDesc.Payload modifier, p)
 
-abbrev pub body_at : Text → ℕ → DescRead
-body_at s at = DescRead.Is FieldDesc.Body at
+abbrev pub body_at : Text → ℕ → Read FieldDesc
+body_at s at = Some (FieldDesc.Body, at)
 
-unfoldable pub padding_at : Text → ℕ → DescRead
-padding_at s at = on_number (number_line s at (text "bytes=")) DescRead.Wrong λ size p. DescRead.Is (FieldDesc.Padding size) p
+unfoldable pub padding_at : Text → ℕ → Read FieldDesc
+padding_at s at = on_read (number_line s at (text "bytes=")) None λ size p. Some (FieldDesc.Padding size, p)
 
-unfoldable pub checksum_at : Text → ℕ → DescRead
-checksum_at s at = on_name (name_line s at (text "of=")) DescRead.Wrong λ of p. DescRead.Is (FieldDesc.Checksum of) p
+unfoldable pub checksum_at : Text → ℕ → Read FieldDesc
+checksum_at s at = on_read (name_line s at (text "of=")) None λ of p. Some (FieldDesc.Checksum of, p)
 
 -- the kinds, each with the reader of its keys
 abbrev pub Kinds : Type 0
-Kinds = List (Text × (Text → ℕ → DescRead))
+Kinds = List (Text × (Text → ℕ → Read FieldDesc))
 
 -- the first of these lines that `r`, the record `s` from `at` on, begins with, and its keys
-abbrev pub choose : Kinds → Text → Text → ℕ → DescRead
-choose [] s r at = DescRead.Wrong
+abbrev pub choose : Kinds → Text → Text → ℕ → Read FieldDesc
+choose [] s r at = None
 choose (k ∷ ks) s r at = on_found (key_of k.0 r at) (choose ks s r at) λ p. k.1 s p
 
 abbrev pub kinds : Kinds
@@ -341,20 +277,20 @@ kinds =
     ∷ (text "field=checksum\n", checksum_at)
     ∷ []
 
-unfoldable pub desc_at : Text → ℕ → DescRead
+unfoldable pub desc_at : Text → ℕ → Read FieldDesc
 desc_at s at = choose kinds s (drop at s) at
 
-unfoldable pub cond_at : Text → ℕ → CondRead
+unfoldable pub cond_at : Text → ℕ → Read (Option Condition)
 cond_at s at =
-    on_maybe_part (maybe_name_line s at (text "if=")) CondRead.Wrong λ name p.
-    on_part name (CondRead.Is Cond.None p) λ id.
-    on_number (number_line s p (text "is=")) CondRead.Wrong λ value q. CondRead.Is (Cond.Some id value) q
+    on_read (maybe_name_line s at (text "if=")) None λ name p.
+    on_found name (Some (None, p)) λ id.
+    on_read (number_line s p (text "is=")) None λ value q. Some (Some (record { id = id; value = value }), q)
 
 -- one field, and the place behind it
-unfoldable pub field_at : Text → ℕ → FieldRead
+unfoldable pub field_at : Text → ℕ → Read Field
 field_at s at =
-    on_desc (desc_at s at) FieldRead.Wrong λ desc p.
-    on_cond (cond_at s p) FieldRead.Wrong λ cond q. FieldRead.Is (record { key = at; desc = desc; cond = cond }) q
+    on_read (desc_at s at) None λ desc p.
+    on_read (cond_at s p) None λ cond q. Some (record { key = at; desc = desc; cond = cond }, q)
 
 -- ---- the head and the declarations
 
@@ -371,100 +307,95 @@ on_arrays s at bad f =
     (on_found (key_at s at (text "arrays=full\n")) bad λ p. f Arrays.Full p)
     λ p. f Arrays.Lite p
 
--- document 02, Card 3: the line may be absent, and then it is `plain`. A line of another form is no declaration, and so 2
-unfoldable pub trailing_at : Text → ℕ → TrailingRead
-trailing_at s at =
-    on_found (key_at s at (text "trailing=plain\n"))
-    (on_found (key_at s at (text "trailing=padded\n")) (record { trailing = Trailing.Plain; next = at }) λ p.
-    record { trailing = Trailing.Padded; next = p })
-    λ p. record { trailing = Trailing.Plain; next = p }
+-- a line of two words that may be absent, which says what its first word says; a line of another form is no declaration, and so 2
+abbrev pub word_line : {A : Type 0} → Text → ℕ → Text × A → Text × A → A × ℕ
+word_line s at first other =
+    on_found (key_at s at first.0) (on_found (key_at s at other.0) (first.1, at) λ p. (other.1, p)) λ p. (first.1, p)
 
--- document 02, Card 7: the same
-unfoldable pub raw_at : Text → ℕ → RawRead
-raw_at s at =
-    on_found (key_at s at (text "raw=plain\n"))
-    (on_found (key_at s at (text "raw=numbered\n")) (record { raw = Raw.Plain; next = at }) λ p. record { raw = Raw.Numbered; next = p })
-    λ p. record { raw = Raw.Plain; next = p }
+-- how a padded array counts behind a payload
+unfoldable pub trailing_at : Text → ℕ → Trailing × ℕ
+trailing_at s at = word_line s at (text "trailing=plain\n", Trailing.Plain) (text "trailing=padded\n", Trailing.Padded)
 
--- document 02, Card 8: the same
-unfoldable pub products_at : Text → ℕ → ProductsRead
-products_at s at =
-    on_found (key_at s at (text "products=plain\n"))
-    (on_found (key_at s at (text "products=divide\n")) (record { products = Products.Plain; next = at }) λ p.
-    record { products = Products.Divide; next = p })
-    λ p. record { products = Products.Plain; next = p }
+-- what the variable of a tested enum is called
+unfoldable pub raw_at : Text → ℕ → Raw × ℕ
+raw_at s at = word_line s at (text "raw=plain\n", Raw.Plain) (text "raw=numbered\n", Raw.Numbered)
+
+-- how an array's check asks for a product
+unfoldable pub products_at : Text → ℕ → Products × ℕ
+products_at s at = word_line s at (text "products=plain\n", Products.Plain) (text "products=divide\n", Products.Divide)
 
 -- behind `trailing` and `raw`
-abbrev pub behind_raw : Text → Trailing → RawRead → OptionalRead
+abbrev pub behind_raw : Text → Trailing → Raw × ℕ → OptionalRead
 behind_raw s trailing w =
-    let p = products_at s w.next in
-    record { trailing = trailing; raw = w.raw; products = p.products; next = p.next }
+    let p = products_at s w.1 in
+    record { trailing = trailing; raw = w.0; products = p.0; next = p.1 }
 
-abbrev pub behind_trailing : Text → TrailingRead → OptionalRead
-behind_trailing s t = behind_raw s t.trailing (raw_at s t.next)
+abbrev pub behind_trailing : Text → Trailing × ℕ → OptionalRead
+behind_trailing s t = behind_raw s t.0 (raw_at s t.1)
 
 -- the lines that may be absent, in their order
 unfoldable pub optional_at : Text → ℕ → OptionalRead
 optional_at s at = behind_trailing s (trailing_at s at)
 
 -- behind `arrays`
-abbrev pub head_is : EndiannessValue → Part → Arrays → OptionalRead → HeadRead
+abbrev pub head_is : EndiannessValue → Part → Arrays → OptionalRead → Read Head
 head_is endianness target arrays t =
-    HeadRead.Is
-    (record {
-      options = record { endianness = endianness; arrays = arrays; trailing = t.trailing; raw = t.raw; products = t.products };
-      target = target;
-    })
-    t.next
+    Some (
+      (record {
+        options = record { endianness = endianness; arrays = arrays; trailing = t.trailing; raw = t.raw; products = t.products };
+        target = target;
+      }),
+      t.next,
+    )
 
-unfoldable pub head_at : Text → ℕ → HeadRead
+unfoldable pub head_at : Text → ℕ → Read Head
 head_at s at =
-    on_endian s at HeadRead.Wrong λ endianness p.
-    on_name (name_line s p (text "target=")) HeadRead.Wrong λ target q.
-    on_arrays s q HeadRead.Wrong λ arrays r.
+    on_endian s at None λ endianness p.
+    on_read (name_line s p (text "target=")) None λ target q.
+    on_arrays s q None λ arrays r.
     head_is endianness target arrays (optional_at s r)
 
-abbrev pub decl_is : ℕ → Part → MaybeSize → DeclDesc → ℕ → DeclRead
-decl_is at id bits desc p = DeclRead.Is (record { key = at; id = id; bits = bits; desc = desc }) p
+abbrev pub decl_is : ℕ → Part → Option Size → DeclDesc → ℕ → Read Decl
+decl_is at id bits desc p = Some (record { key = at; id = id; bits = bits; desc = desc }, p)
 
 -- a packet or a struct; `at` is the declaration's place, `p` that behind its `decl` line
-abbrev pub parented_at : (MaybePart → DeclDesc) → Text → ℕ → ℕ → DeclRead
+abbrev pub parented_at : (Option Part → DeclDesc) → Text → ℕ → ℕ → Read Decl
 parented_at desc s at p =
-    on_name (name_line s p (text "name=")) DeclRead.Wrong λ id q.
-    on_maybe_part (maybe_name_line s q (text "parent=")) DeclRead.Wrong λ parent r.
-    on_maybe_size (bits_line s r) DeclRead.Wrong λ bits t. decl_is at id bits (desc parent) t
+    on_read (name_line s p (text "name=")) None λ id q.
+    on_read (maybe_name_line s q (text "parent=")) None λ parent r.
+    on_read (bits_line s r) None λ bits t. decl_is at id bits (desc parent) t
 
-unfoldable pub packet_at : Text → ℕ → ℕ → DeclRead
+unfoldable pub packet_at : Text → ℕ → ℕ → Read Decl
 packet_at s at p = parented_at DeclDesc.Packet s at p
 
-unfoldable pub struct_at : Text → ℕ → ℕ → DeclRead
+unfoldable pub struct_at : Text → ℕ → ℕ → Read Decl
 struct_at s at p = parented_at DeclDesc.Struct s at p
 
-unfoldable pub enum_at : Text → ℕ → ℕ → DeclRead
+unfoldable pub enum_at : Text → ℕ → ℕ → Read Decl
 enum_at s at p =
-    on_name (name_line s p (text "name=")) DeclRead.Wrong λ id q.
-    on_number (number_line s q (text "width=")) DeclRead.Wrong λ width r.
-    on_bit (bit_line s r (text "open=")) DeclRead.Wrong λ is_open t.
-    on_bit (bit_line s t (text "complete=")) DeclRead.Wrong λ is_complete u. decl_is at id MaybeSize.None (DeclDesc.Enum width is_open is_complete) u
+    on_read (name_line s p (text "name=")) None λ id q.
+    on_read (number_line s q (text "width=")) None λ width r.
+    on_read (bit_line s r (text "open=")) None λ is_open t.
+    on_read (bit_line s t (text "complete=")) None λ is_complete u. decl_is at id None (DeclDesc.Enum width is_open is_complete) u
 
-unfoldable pub checksum_decl_at : Text → ℕ → ℕ → DeclRead
+unfoldable pub checksum_decl_at : Text → ℕ → ℕ → Read Decl
 checksum_decl_at s at p =
-    on_name (name_line s p (text "name=")) DeclRead.Wrong λ id q.
-    on_number (number_line s q (text "width=")) DeclRead.Wrong λ width r. decl_is at id MaybeSize.None (DeclDesc.Checksum width) r
+    on_read (name_line s p (text "name=")) None λ id q.
+    on_read (number_line s q (text "width=")) None λ width r. decl_is at id None (DeclDesc.Checksum width) r
 
-unfoldable pub custom_at : Text → ℕ → ℕ → DeclRead
+unfoldable pub custom_at : Text → ℕ → ℕ → Read Decl
 custom_at s at p =
-    on_name (name_line s p (text "name=")) DeclRead.Wrong λ id q.
-    on_maybe_number (maybe_number_line s q (text "width=")) DeclRead.Wrong λ width r. decl_is at id MaybeSize.None (DeclDesc.CustomField width) r
+    on_read (name_line s p (text "name=")) None λ id q.
+    on_read (maybe_number_line s q (text "width=")) None λ width r. decl_is at id None (DeclDesc.CustomField width) r
 
 -- the lines of a declaration that stand before its fields
-unfoldable pub decl_at : Text → ℕ → DeclRead
+unfoldable pub decl_at : Text → ℕ → Read Decl
 decl_at s at =
     on_found (key_at s at (text "decl=packet\n"))
     (on_found (key_at s at (text "decl=struct\n"))
     (on_found (key_at s at (text "decl=enum\n"))
     (on_found (key_at s at (text "decl=checksum\n"))
-    (on_found (key_at s at (text "decl=custom\n")) DeclRead.Wrong λ p. custom_at s at p)
+    (on_found (key_at s at (text "decl=custom\n")) None λ p. custom_at s at p)
     λ p. checksum_decl_at s at p)
     λ p. enum_at s at p)
     λ p. struct_at s at p)
@@ -495,7 +426,7 @@ with_field x no_fields = no_fields
 unfoldable pub fields_at : Text → ℕ → ℕ → Fields
 fields_at s zero at = no_fields
 fields_at s (suc fuel) at =
-    on_found (key_at s at (text "field=")) (fields_are [] at) λ p. on_field (field_at s at) no_fields λ x q. with_field x (fields_at s fuel q)
+    on_found (key_at s at (text "field=")) (fields_are [] at) λ p. on_read (field_at s at) no_fields λ x q. with_field x (fields_at s fuel q)
 
 -- only a packet and a struct have fields
 unfoldable pub fields_behind : Text → DeclDesc → ℕ → Fields
@@ -517,7 +448,7 @@ with_declaration d no_declarations = no_declarations
 unfoldable pub declarations_at : Text → ℕ → ℕ → Declarations
 declarations_at s zero at = no_declarations
 declarations_at s (suc fuel) at =
-    on_decl (decl_at s at) no_declarations λ d p.
+    on_read (decl_at s at) no_declarations λ d p.
     on_fields (fields_behind s d.desc p) no_declarations λ xs q.
     with_declaration (record { decl = d; fields = xs })
     (elim (nat_lt q (length s)) [ true ↦ declarations_at s fuel q | false ↦ declarations_are [] ])
@@ -527,4 +458,4 @@ with_head h (declarations_are ds) = record_is h ds
 with_head h no_declarations = no_record
 
 unfoldable pub read_record : Text → RecordRead
-read_record s = on_head (head_at s 0) no_record λ h p. with_head h (declarations_at s (length s) p)
+read_record s = on_read (head_at s 0) no_record λ h p. with_head h (declarations_at s (length s) p)

@@ -1,27 +1,31 @@
 -- Document 01, 'The answer, and why a record is turned back': the number of each refusal, and refusals 3 to 9, each a test over the whole record;
 -- and of document 02 16, before them, and 17, between 8 and 9.
 -- Assumes nothing.
-use Rattle.std.specs.Prelude.{ℕ, ◌+◌, ◌-◌, ◌%◌, ◌^◌, Bool, true, false, not, ◌&&◌, ◌||◌, ltb, List, [], ◌∷◌, ◌++◌, length, ◌==◌, nat_lt}
-use Rattle.std.proofs.Math.Option.{Option, none, some}
+use Rattle.std.specs.Prelude.{Result, Ok, Err, Option, Some, None, ℕ, ◌+◌, ◌-◌, ◌%◌, ◌^◌, Bool, true, false, not, ◌&&◌, ◌||◌, ltb, List, [], ◌∷◌, ◌++◌, length, ◌==◌, nat_lt}
 use Rattle.definitions.specs.Bytes.{Text, any, part}
 use Rattle.definitions.specs.Keywords.{is_keyword}
 use Rattle.definitions.specs.Record.{Declaration}
 use Rattle.definitions.specs.Sizes.{Schema, Entry, Row, Annotated, same_name, parent_id, desc_enum, enum_of, is_enum, total_size, total_of, static_width}
-use Rattle.definitions.specs.declared.EnumOf.{EnumOf}
+use Rattle.definitions.specs.declared.EnumKind.{EnumKind}
 use Rattle.definitions.specs.declared.Part.{Part}
-use Rattle.definitions.specs.declared.MaybePart.{MaybePart}
-use Rattle.definitions.specs.declared.MaybeNumber.{MaybeNumber}
 use Rattle.definitions.specs.declared.Modifier.{Modifier}
 use Rattle.definitions.specs.declared.Head.{Head}
 use Rattle.definitions.specs.declared.FieldDesc.{FieldDesc}
-use Rattle.definitions.specs.declared.Cond.{Cond}
+use Rattle.definitions.specs.declared.Condition.{Condition}
 use Rattle.definitions.specs.declared.Field.{Field}
 use Rattle.definitions.specs.declared.DeclDesc.{DeclDesc}
 use Rattle.definitions.specs.declared.Decl.{Decl}
 use Rattle.definitions.specs.declared.Size.{Size}
-use Rattle.definitions.specs.declared.MaybeSize.{MaybeSize}
 use Rattle.definitions.specs.declared.Refusal.{Refusal}
-use Rattle.definitions.specs.declared.Verdict.{Verdict}
+
+-- what a test over the whole record comes to
+abbrev pub Verdict : Type 0
+Verdict = Result Unit Refusal
+
+-- `?`: what follows where nothing is refused
+abbrev pub on_ok : {A B : Type 0} → Result A Refusal → (A → Result B Refusal) → Result B Refusal
+on_ok (Ok x) f = f x
+on_ok (Err why) f = Err why
 
 abbrev pub number : Refusal → ℕ
 number Refusal.RecordLength = 1
@@ -45,9 +49,9 @@ number Refusal.NoRoom = 15
 
 -- ---- 16: a name of the record is a keyword of C++17 (document 02, Card 6)
 
-abbrev pub maybe_name : MaybePart → List Part
-maybe_name MaybePart.None = []
-maybe_name (MaybePart.Some name) = name ∷ []
+abbrev pub maybe_name : Option Part → List Part
+maybe_name None = []
+maybe_name (Some name) = name ∷ []
 
 abbrev pub desc_names : FieldDesc → List Part
 desc_names (FieldDesc.Checksum of) = of ∷ []
@@ -65,9 +69,9 @@ desc_names (FieldDesc.Scalar id width) = id ∷ []
 desc_names (FieldDesc.Flag id) = id ∷ []
 desc_names (FieldDesc.Typedef id type) = id ∷ type ∷ []
 
-abbrev pub cond_names : Cond → List Part
-cond_names Cond.None = []
-cond_names (Cond.Some id value) = id ∷ []
+abbrev pub cond_names : Option Condition → List Part
+cond_names None = []
+cond_names (Some cond) = cond.id ∷ []
 
 abbrev pub field_names : Field → List Part
 field_names f = desc_names f.desc ++ cond_names f.cond
@@ -109,8 +113,8 @@ duplicate_name s (d ∷ ds) = any (λ (e : Declaration). same_name s d.decl.id e
 -- ---- 5: a type or parent is not an earlier declaration, a parent is no packet or struct, a fixed enum's type is no enum
 
 unfoldable pub find : Text → List Declaration → Part → Option DeclDesc
-find s [] name = none
-find s (d ∷ ds) name = elim (same_name s d.decl.id name) [ true ↦ some d.decl.desc | false ↦ find s ds name ]
+find s [] name = None
+find s (d ∷ ds) name = elim (same_name s d.decl.id name) [ true ↦ Some d.decl.desc | false ↦ find s ds name ]
 
 -- a packet or struct
 abbrev pub is_frame : DeclDesc → Bool
@@ -128,12 +132,12 @@ is_there d = true
 
 -- none, or one that fails the test
 abbrev pub lacks : (DeclDesc → Bool) → Option DeclDesc → Bool
-lacks ok none = true
-lacks ok (some d) = not (ok d)
+lacks ok None = true
+lacks ok (Some d) = not (ok d)
 
-abbrev pub bad_name : Text → List Declaration → (DeclDesc → Bool) → MaybePart → Bool
-bad_name s earlier ok MaybePart.None = false
-bad_name s earlier ok (MaybePart.Some name) = lacks ok (find s earlier name)
+abbrev pub bad_name : Text → List Declaration → (DeclDesc → Bool) → Option Part → Bool
+bad_name s earlier ok None = false
+bad_name s earlier ok (Some name) = lacks ok (find s earlier name)
 
 abbrev pub bad_type : Text → List Declaration → FieldDesc → Bool
 bad_type s earlier (FieldDesc.Checksum of) = false
@@ -144,12 +148,12 @@ bad_type s earlier (FieldDesc.ElementSize of width) = false
 bad_type s earlier FieldDesc.Body = false
 bad_type s earlier (FieldDesc.Payload modifier) = false
 bad_type s earlier (FieldDesc.FixedScalar width value) = false
-bad_type s earlier (FieldDesc.FixedEnum type tag) = bad_name s earlier is_enum_desc (MaybePart.Some type)
+bad_type s earlier (FieldDesc.FixedEnum type tag) = bad_name s earlier is_enum_desc (Some type)
 bad_type s earlier (FieldDesc.Reserved width) = false
 bad_type s earlier (FieldDesc.Array id width type modifier size) = bad_name s earlier is_there type
 bad_type s earlier (FieldDesc.Scalar id width) = false
 bad_type s earlier (FieldDesc.Flag id) = false
-bad_type s earlier (FieldDesc.Typedef id type) = bad_name s earlier is_there (MaybePart.Some type)
+bad_type s earlier (FieldDesc.Typedef id type) = bad_name s earlier is_there (Some type)
 
 abbrev pub bad_names : Text → List Declaration → Declaration → Bool
 bad_names s earlier d =
@@ -173,9 +177,9 @@ bad_width w = outside 1 64 w
 abbrev pub bad_count : ℕ → Bool
 bad_count n = outside 0 65535 n
 
-abbrev pub bad_maybe : (ℕ → Bool) → MaybeNumber → Bool
-bad_maybe bad MaybeNumber.None = false
-bad_maybe bad (MaybeNumber.Some n) = bad n
+abbrev pub bad_maybe : (ℕ → Bool) → Option ℕ → Bool
+bad_maybe bad None = false
+bad_maybe bad (Some n) = bad n
 
 abbrev pub bad_modifier : Modifier → Bool
 bad_modifier Modifier.None = false
@@ -247,18 +251,18 @@ ragged_size (Size.Static bits) = bits == 0 || not_whole bits
 ragged_size Size.Dynamic = false
 ragged_size Size.Unknown = false
 
-abbrev pub ragged_array : Text → List Row → MaybeNumber → MaybePart → Bool
-ragged_array s rows (MaybeNumber.Some width) type = ragged_size (Size.Static width)
-ragged_array s rows MaybeNumber.None (MaybePart.Some type) = ragged_size (total_of s rows type)
-ragged_array s rows MaybeNumber.None MaybePart.None = false
+abbrev pub ragged_array : Text → List Row → Option ℕ → Option Part → Bool
+ragged_array s rows (Some width) type = ragged_size (Size.Static width)
+ragged_array s rows None (Some type) = ragged_size (total_of s rows type)
+ragged_array s rows None None = false
 
-abbrev pub is_optional : Cond → Bool
-is_optional Cond.None = false
-is_optional (Cond.Some id value) = true
+abbrev pub is_optional : Option Condition → Bool
+is_optional None = false
+is_optional (Some cond) = true
 
-abbrev pub ragged_enum : EnumOf → Bool
-ragged_enum (EnumOf.Enum width is_open is_complete) = not_whole width
-ragged_enum EnumOf.None = false
+abbrev pub ragged_enum : Option EnumKind → Bool
+ragged_enum (Some kind) = not_whole kind.width
+ragged_enum None = false
 
 abbrev pub ragged_desc : Text → List Row → Bool → FieldDesc → Bool
 ragged_desc s rows optional (FieldDesc.Checksum of) = false
@@ -295,9 +299,9 @@ same_size Size.Unknown (Size.Static b) = false
 same_size Size.Unknown Size.Dynamic = false
 same_size Size.Unknown Size.Unknown = true
 
-abbrev pub differs : MaybeSize → Size → Bool
-differs MaybeSize.None size = false
-differs (MaybeSize.Some stated) size = not (same_size stated size)
+abbrev pub differs : Option Size → Size → Bool
+differs None size = false
+differs (Some stated) size = not (same_size stated size)
 
 unfoldable pub misstated : Schema → Bool
 misstated schema = any (λ (e : Entry). differs e.row.decl.bits e.row.decl_size) schema
@@ -313,7 +317,7 @@ no_target s h schema = not (any (is_target s h) schema)
 -- ---- each tested over the whole record before the next
 
 abbrev pub refuse_if : Bool → Refusal → Verdict → Verdict
-refuse_if true why next = Verdict.Refuse why
+refuse_if true why next = Err why
 refuse_if false why next = next
 
 -- 16, then 3 to 9 with 17 between 8 and 9; `schema` are the tables of `ds`
@@ -327,4 +331,4 @@ verdict s h ds schema =
     (refuse_if (large schema) Refusal.TooLarge
     (refuse_if (ragged s schema) Refusal.NotWholeBytes
     (refuse_if (misstated schema) Refusal.Misstated
-    (refuse_if (no_target s h schema) Refusal.NoTarget Verdict.Pass))))))))
+    (refuse_if (no_target s h schema) Refusal.NoTarget (Ok tt)))))))))

@@ -1,16 +1,12 @@
 -- The sizes of analyzer.rs: `Size`, the tables of `Schema`, `element_size` and `array_size`. A type or a parent is an earlier declaration
 -- (refusal 5), so it is looked up by its name among the rows of the declarations before.
 -- Assumes nothing.
-use Rattle.std.specs.Prelude.{ℕ, ◌+◌, ◌*◌, ◌/◌, Bool, true, false, ◌||◌, List, [], ◌∷◌, ◌++◌}
-use Rattle.std.proofs.Math.Option.{Option, none, some}
+use Rattle.std.specs.Prelude.{Option, Some, None, ℕ, ◌+◌, ◌*◌, ◌/◌, Bool, true, false, ◌||◌, List, [], ◌∷◌, ◌++◌}
 use Rattle.definitions.specs.Bytes.{Text, text, pick, any, same, part}
 use Rattle.definitions.specs.Record.{Declaration}
-use Rattle.definitions.specs.declared.EnumOf.{EnumOf}
+use Rattle.definitions.specs.declared.EnumKind.{EnumKind}
 use Rattle.definitions.specs.declared.Part.{Part}
-use Rattle.definitions.specs.declared.MaybePart.{MaybePart}
-use Rattle.definitions.specs.declared.MaybeNumber.{MaybeNumber}
 use Rattle.definitions.specs.declared.FieldDesc.{FieldDesc}
-use Rattle.definitions.specs.declared.Cond.{Cond}
 use Rattle.definitions.specs.declared.Field.{Field}
 use Rattle.definitions.specs.declared.DeclDesc.{DeclDesc}
 use Rattle.definitions.specs.declared.Decl.{Decl}
@@ -54,45 +50,45 @@ same_name s p q = same (part s p) (part s q)
 abbrev pub is_payload_id : Text → Part → Bool
 is_payload_id s p = same (part s p) (text "_payload_") || same (part s p) (text "_body_")
 
-abbrev pub reference : FieldDesc → Reference
-reference (FieldDesc.Checksum of) = Reference.None
-reference (FieldDesc.Padding size) = Reference.None
-reference (FieldDesc.Size of width) = Reference.Size of width
-reference (FieldDesc.Count of width) = Reference.Count of
-reference (FieldDesc.ElementSize of width) = Reference.ElementSize of
-reference FieldDesc.Body = Reference.None
-reference (FieldDesc.Payload modifier) = Reference.None
-reference (FieldDesc.FixedScalar width value) = Reference.None
-reference (FieldDesc.FixedEnum type tag) = Reference.None
-reference (FieldDesc.Reserved width) = Reference.None
-reference (FieldDesc.Array id width type modifier size) = Reference.None
-reference (FieldDesc.Scalar id width) = Reference.None
-reference (FieldDesc.Flag id) = Reference.None
-reference (FieldDesc.Typedef id type) = Reference.None
+abbrev pub reference : FieldDesc → Option Reference
+reference (FieldDesc.Checksum of) = None
+reference (FieldDesc.Padding size) = None
+reference (FieldDesc.Size of width) = Some (Reference.Size of width)
+reference (FieldDesc.Count of width) = Some (Reference.Count of)
+reference (FieldDesc.ElementSize of width) = Some (Reference.ElementSize of)
+reference FieldDesc.Body = None
+reference (FieldDesc.Payload modifier) = None
+reference (FieldDesc.FixedScalar width value) = None
+reference (FieldDesc.FixedEnum type tag) = None
+reference (FieldDesc.Reserved width) = None
+reference (FieldDesc.Array id width type modifier size) = None
+reference (FieldDesc.Scalar id width) = None
+reference (FieldDesc.Flag id) = None
+reference (FieldDesc.Typedef id type) = None
 
 -- a size field of the payload
-abbrev pub is_payload_size : Text → Reference → Bool
-is_payload_size s Reference.None = false
-is_payload_size s (Reference.Size of width) = is_payload_id s of
-is_payload_size s (Reference.Count of) = false
-is_payload_size s (Reference.ElementSize of) = false
+abbrev pub is_payload_size : Text → Option Reference → Bool
+is_payload_size s None = false
+is_payload_size s (Some (Reference.Size of width)) = is_payload_id s of
+is_payload_size s (Some (Reference.Count of)) = false
+is_payload_size s (Some (Reference.ElementSize of)) = false
 
 -- a size or count field of the array `id`
-abbrev pub is_array_size : Text → Part → Reference → Bool
-is_array_size s id Reference.None = false
-is_array_size s id (Reference.Size of width) = same_name s of id
-is_array_size s id (Reference.Count of) = same_name s of id
-is_array_size s id (Reference.ElementSize of) = false
+abbrev pub is_array_size : Text → Part → Option Reference → Bool
+is_array_size s id None = false
+is_array_size s id (Some (Reference.Size of width)) = same_name s of id
+is_array_size s id (Some (Reference.Count of)) = same_name s of id
+is_array_size s id (Some (Reference.ElementSize of)) = false
 
 -- an element size field of the array `id`
-abbrev pub is_element_size : Text → Part → Reference → Bool
-is_element_size s id Reference.None = false
-is_element_size s id (Reference.Size of width) = false
-is_element_size s id (Reference.Count of) = false
-is_element_size s id (Reference.ElementSize of) = same_name s of id
+abbrev pub is_element_size : Text → Part → Option Reference → Bool
+is_element_size s id None = false
+is_element_size s id (Some (Reference.Size of width)) = false
+is_element_size s id (Some (Reference.Count of)) = false
+is_element_size s id (Some (Reference.ElementSize of)) = same_name s of id
 
 -- some field of a declaration passes a test of what it names
-abbrev pub any_reference : (Reference → Bool) → List Field → Bool
+abbrev pub any_reference : (Option Reference → Bool) → List Field → Bool
 any_reference test fs = any (λ (f : Field). test (reference f.desc)) fs
 
 -- ---- the rows of `Schema`: what a later declaration takes from an earlier one
@@ -109,18 +105,18 @@ total_size r = add_size (add_size r.decl_size r.parent_size) r.payload_size
 
 -- `scope.typedef.get(name)`
 unfoldable pub lookup : Text → List Row → Part → Option Row
-lookup s [] name = none
-lookup s (r ∷ rs) name = elim (same_name s r.decl.id name) [ true ↦ some r | false ↦ lookup s rs name ]
+lookup s [] name = None
+lookup s (r ∷ rs) name = elim (same_name s r.decl.id name) [ true ↦ Some r | false ↦ lookup s rs name ]
 
 -- `schema.total_size` of a type by its name
 abbrev pub total_of : Text → List Row → Part → Size
-total_of s rows name = elim (lookup s rows name) [ some r ↦ total_size r | none ↦ Size.Unknown ]
+total_of s rows name = elim (lookup s rows name) [ Some r ↦ total_size r | None ↦ Size.Unknown ]
 
 -- `schema.decl_size(key) + schema.parent_size(key)` of the parent
-abbrev pub parent_of : Text → List Row → MaybePart → Size
-parent_of s rows MaybePart.None = Size.Static 0
-parent_of s rows (MaybePart.Some name) =
-    elim (lookup s rows name) [ some r ↦ add_size r.decl_size r.parent_size | none ↦ Size.Static 0 ]
+abbrev pub parent_of : Text → List Row → Option Part → Size
+parent_of s rows None = Size.Static 0
+parent_of s rows (Some name) =
+    elim (lookup s rows name) [ Some r ↦ add_size r.decl_size r.parent_size | None ↦ Size.Static 0 ]
 
 -- ---- `annotate_field`: `fs` are the fields of the declaration
 
@@ -137,11 +133,11 @@ has_payload_size s fs = any_reference (is_payload_size s) fs
 abbrev pub has_array_size : Text → List Field → Part → Bool
 has_array_size s fs id = any_reference (is_array_size s id) fs
 
-abbrev pub array_bits : Text → List Row → List Field → Part → MaybeNumber → MaybePart → MaybeNumber → Size
-array_bits s rows fs id width type MaybeNumber.None = given (has_array_size s fs id)
-array_bits s rows fs id (MaybeNumber.Some width) type (MaybeNumber.Some size) = Size.Static (size * width)
-array_bits s rows fs id MaybeNumber.None (MaybePart.Some type) (MaybeNumber.Some size) = mul_size (total_of s rows type) size
-array_bits s rows fs id MaybeNumber.None MaybePart.None (MaybeNumber.Some size) = Size.Unknown
+abbrev pub array_bits : Text → List Row → List Field → Part → Option ℕ → Option Part → Option ℕ → Size
+array_bits s rows fs id width type None = given (has_array_size s fs id)
+array_bits s rows fs id (Some width) type (Some size) = Size.Static (size * width)
+array_bits s rows fs id None (Some type) (Some size) = mul_size (total_of s rows type) size
+array_bits s rows fs id None None (Some size) = Size.Unknown
 
 -- a field without a condition
 unfoldable pub desc_size : Text → List Row → List Field → FieldDesc → Size
@@ -163,36 +159,36 @@ desc_size s rows fs (FieldDesc.Typedef id type) = total_of s rows type
 -- an optional field is Dynamic
 abbrev pub annotate_field : Text → List Row → List Field → Field → Size
 annotate_field s rows fs f =
-    elim f.cond [ Cond.None ↦ desc_size s rows fs f.desc | Cond.Some id value ↦ Size.Dynamic ]
+    elim f.cond [ None ↦ desc_size s rows fs f.desc | Some cond ↦ Size.Dynamic ]
 
 -- ---- `annotate_decl`
 
 -- a padding sets the padded size of the field just before it, in bits
-abbrev pub padding_bits : FieldDesc → MaybeNumber
-padding_bits (FieldDesc.Checksum of) = MaybeNumber.None
-padding_bits (FieldDesc.Padding size) = MaybeNumber.Some (8 * size)
-padding_bits (FieldDesc.Size of width) = MaybeNumber.None
-padding_bits (FieldDesc.Count of width) = MaybeNumber.None
-padding_bits (FieldDesc.ElementSize of width) = MaybeNumber.None
-padding_bits FieldDesc.Body = MaybeNumber.None
-padding_bits (FieldDesc.Payload modifier) = MaybeNumber.None
-padding_bits (FieldDesc.FixedScalar width value) = MaybeNumber.None
-padding_bits (FieldDesc.FixedEnum type tag) = MaybeNumber.None
-padding_bits (FieldDesc.Reserved width) = MaybeNumber.None
-padding_bits (FieldDesc.Array id width type modifier size) = MaybeNumber.None
-padding_bits (FieldDesc.Scalar id width) = MaybeNumber.None
-padding_bits (FieldDesc.Flag id) = MaybeNumber.None
-padding_bits (FieldDesc.Typedef id type) = MaybeNumber.None
+abbrev pub padding_bits : FieldDesc → Option ℕ
+padding_bits (FieldDesc.Checksum of) = None
+padding_bits (FieldDesc.Padding size) = Some (8 * size)
+padding_bits (FieldDesc.Size of width) = None
+padding_bits (FieldDesc.Count of width) = None
+padding_bits (FieldDesc.ElementSize of width) = None
+padding_bits FieldDesc.Body = None
+padding_bits (FieldDesc.Payload modifier) = None
+padding_bits (FieldDesc.FixedScalar width value) = None
+padding_bits (FieldDesc.FixedEnum type tag) = None
+padding_bits (FieldDesc.Reserved width) = None
+padding_bits (FieldDesc.Array id width type modifier size) = None
+padding_bits (FieldDesc.Scalar id width) = None
+padding_bits (FieldDesc.Flag id) = None
+padding_bits (FieldDesc.Typedef id type) = None
 
-abbrev pub padded_by : List Field → MaybeNumber
-padded_by [] = MaybeNumber.None
+abbrev pub padded_by : List Field → Option ℕ
+padded_by [] = None
 padded_by (f ∷ later) = padding_bits f.desc
 
 -- a field with its entries of the tables `field_size` and `padded_size`
 pub record Annotated : Type 0 where
   pub field : Field
   pub field_size : Size
-  pub padded_size : MaybeNumber
+  pub padded_size : Option ℕ
 
 -- the fields from one on; `fs` are all of the declaration
 unfoldable pub annotate_fields : Text → List Row → List Field → List Field → List Annotated
@@ -233,9 +229,9 @@ is_array (FieldDesc.Flag id) = false
 is_array (FieldDesc.Typedef id type) = false
 
 -- what a field adds to its declaration: its padded size where it has one
-abbrev pub outer_size : Size → MaybeNumber → Size
-outer_size size MaybeNumber.None = size
-outer_size size (MaybeNumber.Some bits) = Size.Static bits
+abbrev pub outer_size : Size → Option ℕ → Size
+outer_size size None = size
+outer_size size (Some bits) = Size.Static bits
 
 -- the sum over the fields that are no payload
 unfoldable pub fields_size : Size → List Annotated → Size
@@ -249,16 +245,16 @@ payloads_size last [] = last
 payloads_size last (a ∷ xs) = payloads_size (pick (is_payload a.field.desc) a.field_size last) xs
 
 -- `parent_id`
-abbrev pub parent_id : DeclDesc → MaybePart
-parent_id (DeclDesc.Checksum width) = MaybePart.None
-parent_id (DeclDesc.CustomField width) = MaybePart.None
-parent_id (DeclDesc.Enum width is_open is_complete) = MaybePart.None
+abbrev pub parent_id : DeclDesc → Option Part
+parent_id (DeclDesc.Checksum width) = None
+parent_id (DeclDesc.CustomField width) = None
+parent_id (DeclDesc.Enum width is_open is_complete) = None
 parent_id (DeclDesc.Packet parent) = parent
 parent_id (DeclDesc.Struct parent) = parent
 
-abbrev pub custom_size : MaybeNumber → Size
-custom_size MaybeNumber.None = Size.Dynamic
-custom_size (MaybeNumber.Some width) = Size.Static width
+abbrev pub custom_size : Option ℕ → Size
+custom_size None = Size.Dynamic
+custom_size (Some width) = Size.Static width
 
 -- `decl_size` and `payload_size`, of a packet and a struct what their fields come to
 abbrev pub decl_size_of : DeclDesc → Size → Size
@@ -321,43 +317,43 @@ typed_element Size.Dynamic false = ElementSize.Unknown
 typed_element Size.Unknown true = ElementSize.Dynamic
 typed_element Size.Unknown false = ElementSize.Unknown
 
-abbrev pub element_size : Text → List Row → List Field → Part → MaybeNumber → MaybePart → ElementSize
-element_size s rows fs id (MaybeNumber.Some width) type = ElementSize.Static (width / 8)
-element_size s rows fs id MaybeNumber.None (MaybePart.Some type) =
+abbrev pub element_size : Text → List Row → List Field → Part → Option ℕ → Option Part → ElementSize
+element_size s rows fs id (Some width) type = ElementSize.Static (width / 8)
+element_size s rows fs id None (Some type) =
     typed_element (total_of s rows type) (any_reference (is_element_size s id) fs)
-element_size s rows fs id MaybeNumber.None MaybePart.None = ElementSize.Unknown
+element_size s rows fs id None None = ElementSize.Unknown
 
 -- what one field makes of the array's size; else what the others make of it
-abbrev pub counted_by : Text → Part → Reference → ArraySize → ArraySize
-counted_by s id Reference.None other = other
-counted_by s id (Reference.Size of width) other = pick (same_name s of id) ArraySize.DynamicSize other
-counted_by s id (Reference.Count of) other = pick (same_name s of id) ArraySize.DynamicCount other
-counted_by s id (Reference.ElementSize of) other = other
+abbrev pub counted_by : Text → Part → Option Reference → ArraySize → ArraySize
+counted_by s id None other = other
+counted_by s id (Some (Reference.Size of width)) other = pick (same_name s of id) ArraySize.DynamicSize other
+counted_by s id (Some (Reference.Count of)) other = pick (same_name s of id) ArraySize.DynamicCount other
+counted_by s id (Some (Reference.ElementSize of)) other = other
 
 -- `decl.array_size(id)`: the first size or count field of the array decides
 unfoldable pub first_count : Text → Part → List Field → ArraySize
 first_count s id [] = ArraySize.Unknown
 first_count s id (f ∷ fs) = counted_by s id (reference f.desc) (first_count s id fs)
 
-abbrev pub array_size : Text → List Field → Part → MaybeNumber → ArraySize
-array_size s fs id (MaybeNumber.Some count) = ArraySize.StaticCount count
-array_size s fs id MaybeNumber.None = first_count s id fs
+abbrev pub array_size : Text → List Field → Part → Option ℕ → ArraySize
+array_size s fs id (Some count) = ArraySize.StaticCount count
+array_size s fs id None = first_count s id fs
 
 -- ---- a type that is an enum: its width, and the marks open and complete
 
-abbrev pub desc_enum : DeclDesc → EnumOf
-desc_enum (DeclDesc.Checksum width) = EnumOf.None
-desc_enum (DeclDesc.CustomField width) = EnumOf.None
-desc_enum (DeclDesc.Enum width is_open is_complete) = EnumOf.Enum width is_open is_complete
-desc_enum (DeclDesc.Packet parent) = EnumOf.None
-desc_enum (DeclDesc.Struct parent) = EnumOf.None
+abbrev pub desc_enum : DeclDesc → Option EnumKind
+desc_enum (DeclDesc.Checksum width) = None
+desc_enum (DeclDesc.CustomField width) = None
+desc_enum (DeclDesc.Enum width is_open is_complete) = Some (record { width = width; is_open = is_open; is_complete = is_complete })
+desc_enum (DeclDesc.Packet parent) = None
+desc_enum (DeclDesc.Struct parent) = None
 
-abbrev pub enum_of : Text → List Row → Part → EnumOf
-enum_of s rows type = elim (lookup s rows type) [ some r ↦ desc_enum r.decl.desc | none ↦ EnumOf.None ]
+abbrev pub enum_of : Text → List Row → Part → Option EnumKind
+enum_of s rows type = elim (lookup s rows type) [ Some r ↦ desc_enum r.decl.desc | None ↦ None ]
 
-abbrev pub is_enum : EnumOf → Bool
-is_enum (EnumOf.Enum width is_open is_complete) = true
-is_enum EnumOf.None = false
+abbrev pub is_enum : Option EnumKind → Bool
+is_enum (Some kind) = true
+is_enum None = false
 
 -- `is_bitfield`: a typedef only where its type is an enum
 abbrev pub is_bitfield : Text → List Row → FieldDesc → Bool

@@ -2,60 +2,34 @@
 -- Assumes nothing.
 use Rattle.std.proofs.Common.{◌≡◌, ℕ, List, [], ◌++◌, refl, ap, append_assoc}
 use Rattle.definitions.specs.Bytes.{Text, text}
-use Rattle.definitions.specs.Lines.{Line, Before, Out, src_text, dest_end, line_text, lines_text, body_text, stmt_text}
+use Rattle.definitions.specs.Lines.{Line, Before, Out, src_text, out_text, dest_end, line_text, lines_text, body_text, stmt_text}
 use Rattle.definitions.specs.Blocks.{span, raw, element_span, named, bare, read_of, parse_lines, parse_array_element, Elem}
 use Rattle.definitions.specs.declared.Arrays.{Arrays}
 use Rattle.definitions.specs.declared.EndiannessValue.{EndiannessValue}
-use Rattle.text.specs.Put.{Put}
-use Rattle.text.proofs.Puts.{chain, like}
+use Rattle.text.specs.Wrote.{Wrote}
+use Rattle.text.specs.declared.Writer.{Writer}
+use Rattle.text.proofs.Wrotes.{then, alike}
 use Rattle.stream.proofs.Texts.{Leads, piece, ◌▸◌, expr-leads, src-leads, line-leads, lines-leads}
 use Rattle.expressions.specs.Amounts.{amount_of}
 use Rattle.expressions.specs.Statements.{stmt_bytes}
 use Rattle.expressions.proofs.Follow.{follow}
-use Rattle.elements.specs.Elements.{element_of, source_of, place_of, place_start, place_end, raw_value, loop_head, loop_of, in_part, element_span_line}
-use Rattle.elements.specs.declared.Element.{Element}
-use Rattle.elements.specs.declared.Source.{Source}
+use Rattle.elements.specs.Elements.{out_of, place_of, place_start, place_end, raw_value, loop_head, loop_of, in_part, element_span_line}
 use Rattle.elements.specs.declared.Place.{Place}
 use Rattle.elements.specs.declared.Loop.{Loop}
-
--- ---- arms
-
-pub by-source : (id behind : Text) (s d : Source) {l l₁ : Text} {i r : ℕ} → s ≡ d → Put l i (source_of id d ++ behind) r l₁
-    → Put l i (source_of id s ++ behind) r l₁
-by-source id behind s d e p = rw e p
-
-pub by_end : (before : Text) (p d : Place) {l l₁ : Text} {i r : ℕ} → p ≡ d → Put l i (before ++ place_end d) r l₁ → Put l i (before ++ place_end p) r l₁
-by_end before p d e q = rw e q
-
-pub by_loop : (m : Arrays) (id : Text) (h d : Loop) {l l₁ : Text} {i r : ℕ} → h ≡ d → Put l i (loop_head m id d []) r l₁ → Put l i (loop_head m id h []) r l₁
-by_loop m id h d e p = rw e p
-
-pub by-element : (id type : Text) (p : Place) (e d : Element) {l l₁ : Text} {i r : ℕ} → e ≡ d
-    → Put l i (lines_text 4 (parse_array_element span (element_of type d) (place_of id p) Out.out) []) r l₁
-    → Put l i (lines_text 4 (parse_array_element span (element_of type e) (place_of id p) Out.out) []) r l₁
-by-element id type p e d h q = rw h q
-
-module _ (id : Text) (p : Place) {l l₁ : Text} {i r : ℕ} where
-  pub in-slot : p ≡ Place.Slot → Put l i (text "    " ++ (named Arrays.Full id (text "_") ++ text "[n] = ")) r l₁ → Put l i (place_start id p []) r l₁
-  unfolding place_start
-  in-slot e q = rw (e, place_start) q
-
-  pub in-push : p ≡ Place.Push → Put l i (text "    " ++ (named Arrays.Full id (text "_") ++ text ".push_back(")) r l₁ → Put l i (place_start id p []) r l₁
-  unfolding place_start
-  in-push e q = rw (e, place_start) q
+use Rattle.elements.specs.declared.Stored.{Stored}
 
 -- ---- lines
 
-pub parse-lines : (type s : Text) {l l₁ l₂ l₃ : Text} {i r₁ r₂ r₃ : ℕ} → Put l i (text "    " ++ (type ++ text " out;\n    if (!")) r₁ l₁
-    → Put l₁ r₁ (type ++ text "::Parse(") r₂ l₂
-    → Put l₂ r₂ (s ++ text ", &out)) {\n        return false;\n    }\n") r₃ l₃
-    → Put l i (lines_text 4 (parse_lines type s) []) r₃ l₃
-parse-lines type s p q t = like (simp append_assoc) (chain p (chain q t))
+pub parse-lines : (type s : Text) {u u₁ u₂ u₃ : Writer} → Wrote u u₁ (text "    " ++ (type ++ text " out;\n    if (!"))
+    → Wrote u₁ u₂ (type ++ text "::Parse(")
+    → Wrote u₂ u₃ (s ++ text ", &out)) {\n        return false;\n    }\n")
+    → Wrote u u₃ (lines_text 4 (parse_lines type s) [])
+parse-lines type s p q t = alike (simp append_assoc) (then p (then q t))
 
-pub raw-lines : (type : Text) (order : EndiannessValue) (w : ℕ) {l l₁ l₂ : Text} {i r₁ r₂ : ℕ}
-    → Put l i (text "    auto raw_value = " ++ src_text (read_of span order w) (text ";\n")) r₁ l₁
-    → Put l₁ r₁ (text "    if (!IsValid" ++ (type ++ text "(raw_value)) {\n        return false;\n    }\n")) r₂ l₂
-    → Put l i (lines_text 4 (raw_value type order w) []) r₂ l₂
+pub raw-lines : (type : Text) (order : EndiannessValue) (w : ℕ) {u u₁ u₂ : Writer}
+    → Wrote u u₁ (text "    auto raw_value = " ++ src_text (read_of span order w) (text ";\n"))
+    → Wrote u₁ u₂ (text "    if (!IsValid" ++ (type ++ text "(raw_value)) {\n        return false;\n    }\n"))
+    → Wrote u u₂ (lines_text 4 (raw_value type order w) [])
 raw-lines type order w a b = follow (line-leads 4 (Line.set Before.auto raw (read_of span order w))) a b
 
 -- ---- places
@@ -71,46 +45,41 @@ place_end_lem id Place.Push = refl
 
 module _ (id : Text) (p : Place) where
   -- any value at its place
-  placed : (f : Text → Text) {l l₁ l₂ : Text} {i r s : ℕ} → Put l i (place_start id p []) r l₁ → Put l₁ r (f (place_end p)) s l₂
-      → Put l i (place_start id p (f (dest_end (place_of id p) []))) s l₂
-  placed f a b = follow (start-leads id p) a (like (ap f (place_end_lem id p)) b)
+  placed : (f : Text → Text) {u u₁ u₂ : Writer} → Wrote u u₁ (place_start id p []) → Wrote u₁ u₂ (f (place_end p))
+      → Wrote u u₂ (place_start id p (f (dest_end (place_of id p) [])))
+  placed f a b = follow (start-leads id p) a (alike (ap f (place_end_lem id p)) b)
 
   module _ (order : EndiannessValue) (w : ℕ) where
-    pub scalar-line : {l l₁ l₂ l₃ : Text} {i r₁ r₂ r₃ : ℕ} → Put l i (place_start id p []) r₁ l₁ → Put l₁ r₁ (src_text (read_of span order w) []) r₂ l₂
-        → Put l₂ r₂ (place_end p) r₃ l₃
-        → Put l i (lines_text 4 (parse_array_element span (Elem.scalar order w) (place_of id p) Out.out) []) r₃ l₃
+    pub scalar-line : {u u₁ u₂ u₃ : Writer} → Wrote u u₁ (place_start id p []) → Wrote u₁ u₂ (src_text (read_of span order w) [])
+        → Wrote u₂ u₃ (place_end p)
+        → Wrote u u₃ (lines_text 4 (parse_array_element span (Elem.scalar order w) (place_of id p) Out.out) [])
     unfolding place_start
     scalar-line a b c = placed (src_text (read_of span order w)) a (follow (src-leads (read_of span order w)) b c)
 
     module _ (type : Text) where
-      pub open-line : {l l₁ l₂ l₃ l₄ : Text} {i r₁ r₂ r₃ r₄ : ℕ} → Put l i (place_start id p []) r₁ l₁ → Put l₁ r₁ type r₂ l₂
-          → Put l₂ r₂ (text "(" ++ src_text (read_of span order w) []) r₃ l₃
-          → Put l₃ r₃ (text ")" ++ place_end p) r₄ l₄
-          → Put l i (lines_text 4 (parse_array_element span (Elem.open_enum type order w) (place_of id p) Out.out) []) r₄ l₄
+      pub open-line : {u u₁ u₂ u₃ u₄ : Writer} → Wrote u u₁ (place_start id p []) → Wrote u₁ u₂ type
+          → Wrote u₂ u₃ (text "(" ++ src_text (read_of span order w) [])
+          → Wrote u₃ u₄ (text ")" ++ place_end p)
+          → Wrote u u₄ (lines_text 4 (parse_array_element span (Elem.open_enum type order w) (place_of id p) Out.out) [])
       unfolding place_start
       open-line a b c d =
           placed (λ t. type ++ (text "(" ++ src_text (read_of span order w) (text ")" ++ t))) a
-          (chain b (follow (piece (text "(") ▸ src-leads (read_of span order w)) c d))
+          (then b (follow (piece (text "(") ▸ src-leads (read_of span order w)) c d))
 
-      pub closed-lines : {l l₁ l₂ l₃ l₄ : Text} {i r₁ r₂ r₃ r₄ : ℕ} → Put l i (lines_text 4 (raw_value type order w) []) r₁ l₁
-          → Put l₁ r₁ (place_start id p []) r₂ l₂
-          → Put l₂ r₂ type r₃ l₃
-          → Put l₃ r₃ (text "(raw_value)" ++ place_end p) r₄ l₄
-          → Put l i (lines_text 4 (parse_array_element span (Elem.closed_enum type order w) (place_of id p) Out.out) []) r₄ l₄
+      pub closed-lines : {u u₁ u₂ u₃ u₄ : Writer} → Wrote u u₁ (lines_text 4 (raw_value type order w) [])
+          → Wrote u₁ u₂ (place_start id p [])
+          → Wrote u₂ u₃ type
+          → Wrote u₃ u₄ (text "(raw_value)" ++ place_end p)
+          → Wrote u u₄ (lines_text 4 (parse_array_element span (Elem.closed_enum type order w) (place_of id p) Out.out) [])
       unfolding place_start
-      closed-lines a b c d = follow (lines-leads 4 (raw_value type order w)) a (placed (λ t. type ++ (text "(raw_value)" ++ t)) b (chain c d))
+      closed-lines a b c d = follow (lines-leads 4 (raw_value type order w)) a (placed (λ t. type ++ (text "(raw_value)" ++ t)) b (then c d))
 
-  module _ (type s : Text) {l l₁ l₂ l₃ : Text} {i r₁ r₂ r₃ : ℕ} (a : Put l i (lines_text 4 (parse_lines type s) []) r₁ l₁)
-      (b : Put l₁ r₁ (place_start id p []) r₂ l₂) where
-    pub parsed-lines : Put l₂ r₂ (text "out" ++ place_end p) r₃ l₃
-        → Put l i (lines_text 4 (parse_array_element s (Elem.parsed type) (place_of id p) Out.out) []) r₃ l₃
+  module _ (type s : Text) {u u₁ u₂ u₃ : Writer} (a : Wrote u u₁ (lines_text 4 (parse_lines type s) []))
+      (b : Wrote u₁ u₂ (place_start id p [])) where
+    pub parsed-lines : (o : Stored) → Wrote u₂ u₃ (out_text (out_of o) (place_end p))
+        → Wrote u u₃ (lines_text 4 (parse_array_element s (Elem.parsed type) (place_of id p) (out_of o)) [])
     unfolding place_start
-    parsed-lines c = follow (lines-leads 4 (parse_lines type s)) a (placed (λ t. text "out" ++ t) b c)
-
-    pub moved_lines : Put l₂ r₂ (text "std::move(out)" ++ place_end p) r₃ l₃
-        → Put l i (lines_text 4 (parse_array_element s (Elem.parsed type) (place_of id p) Out.moved) []) r₃ l₃
-    unfolding place_start
-    moved_lines c = follow (lines-leads 4 (parse_lines type s)) a (placed (λ t. text "std::move(out)" ++ t) b c)
+    parsed-lines o c = follow (lines-leads 4 (parse_lines type s)) a (placed (out_text (out_of o)) b c)
 
 -- ---- loops
 
@@ -124,26 +93,26 @@ loop-text m id (Loop.Times a) xs = refl
 loop-text m id Loop.WhileRest xs = refl
 loop-text m id Loop.WhileOwn xs = refl
 
-pub looped : (m : Arrays) (id : Text) (h : Loop) (xs : List Line) {l l₁ l₂ l₃ : Text} {i r₁ r₂ r₃ : ℕ} → Put l i (loop_head m id h []) r₁ l₁
-    → Put l₁ r₁ (lines_text 4 xs []) r₂ l₂
-    → Put l₂ r₂ (text "}\n") r₃ l₃
-    → Put l i (stmt_bytes (loop_of m id h xs)) r₃ l₃
+pub looped : (m : Arrays) (id : Text) (h : Loop) (xs : List Line) {u u₁ u₂ u₃ : Writer} → Wrote u u₁ (loop_head m id h [])
+    → Wrote u₁ u₂ (lines_text 4 xs [])
+    → Wrote u₂ u₃ (text "}\n")
+    → Wrote u u₃ (stmt_bytes (loop_of m id h xs))
 unfolding stmt_bytes
-looped m id h xs a b c = like (loop-text m id h xs) (follow (loop-leads m id h) a (follow (lines-leads 4 xs) b c))
+looped m id h xs a b c = alike (loop-text m id h xs) (follow (loop-leads m id h) a (follow (lines-leads 4 xs) b c))
 
 module _ (id : Text) where
-  pub element-span : {l l₁ l₂ : Text} {i r₁ r₂ : ℕ}
-      → Put l i (text "    auto element_span = span.subrange(n * " ++ (named Arrays.Full id (text "_element_size_") ++ text ", ")) r₁ l₁
-      → Put l₁ r₁ (named Arrays.Full id (text "_element_size_") ++ text ");\n") r₂ l₂
-      → Put l i (line_text 4 (element_span_line id) []) r₂ l₂
+  pub element-span : {u u₁ u₂ : Writer}
+      → Wrote u u₁ (text "    auto element_span = span.subrange(n * " ++ (named Arrays.Full id (text "_element_size_") ++ text ", "))
+      → Wrote u₁ u₂ (named Arrays.Full id (text "_element_size_") ++ text ");\n")
+      → Wrote u u₂ (line_text 4 (element_span_line id) [])
   element-span a b =
       follow
       (piece (text "    auto element_span = span.subrange(n * ") ▸ piece (named Arrays.Full id (text "_element_size_")) ▸ piece (text ", "))
       a b
 
-  pub in_parts : (type : Text) (h : Loop) {l l₁ l₂ l₃ l₄ : Text} {i r₁ r₂ r₃ r₄ : ℕ} → Put l i (loop_head Arrays.Full id h []) r₁ l₁
-      → Put l₁ r₁ (line_text 4 (element_span_line id) []) r₂ l₂
-      → Put l₂ r₂ (lines_text 4 (parse_array_element element_span (Elem.parsed type) (place_of id Place.Slot) Out.out) []) r₃ l₃
-      → Put l₃ r₃ (text "}\n") r₄ l₄
-      → Put l i (stmt_bytes (loop_of Arrays.Full id h (in_part id type))) r₄ l₄
+  pub in_parts : (type : Text) (h : Loop) {u u₁ u₂ u₃ u₄ : Writer} → Wrote u u₁ (loop_head Arrays.Full id h [])
+      → Wrote u₁ u₂ (line_text 4 (element_span_line id) [])
+      → Wrote u₂ u₃ (lines_text 4 (parse_array_element element_span (Elem.parsed type) (place_of id Place.Slot) Out.out) [])
+      → Wrote u₃ u₄ (text "}\n")
+      → Wrote u u₄ (stmt_bytes (loop_of Arrays.Full id h (in_part id type)))
   in_parts type h a b c d = looped Arrays.Full id h (in_part id type) a (follow (line-leads 4 (element_span_line id)) b c) d

@@ -11,6 +11,7 @@ use Rattle.elements.specs.declared.Element.{Element}
 use Rattle.elements.specs.declared.Source.{Source}
 use Rattle.elements.specs.declared.Place.{Place}
 use Rattle.elements.specs.declared.Loop.{Loop}
+use Rattle.elements.specs.declared.Stored.{Stored}
 
 abbrev pub element_of : Text → Element → Elem
 element_of type (Element.Scalar order w) = Elem.scalar order w
@@ -26,6 +27,10 @@ source_of id Source.OwnSpan = bare id (text "_span")
 abbrev pub place_of : Text → Place → Dest
 place_of id Place.Slot = Dest.slot (named Arrays.Full id (text "_"))
 place_of id Place.Push = Dest.push (named Arrays.Full id (text "_"))
+
+abbrev pub out_of : Stored → Out
+out_of Stored.Plain = Out.out
+out_of Stored.Moved = Out.moved
 
 -- what stands before the element in its line, and behind it
 unfoldable pub place_start : Text → Place → Text → Text

@@ -1,6 +1,7 @@
 -- What refusal 7 says of the target's fields from one on: none of them is over the limit, nor is the sum of their static sizes, nor what one counts
 -- behind a payload.
 -- Assumes nothing.
+use Rattle.std.specs.Prelude.{Option, Some, None}
 use lib.ListN.{get_or}
 use Prim.Native.Nat.{ℕ, zero, suc, ◌+◌, ◌*◌, ◌≤◌, ◌<◌, ◌^◌}
 use mathlib.Core.Bool.{Bool, true, false}
@@ -14,7 +15,6 @@ use Rattle.definitions.specs.Sizes.{Annotated, annotate_field, outer_size}
 use Rattle.definitions.specs.Refusals.{large_size, too_large, bad_maybe, large_field, static_sum}
 use Rattle.definitions.specs.FieldParser.{is_array_field, later_size}
 use Rattle.definitions.specs.declared.Field.{Field}
-use Rattle.definitions.specs.declared.MaybeNumber.{MaybeNumber}
 use Rattle.definitions.specs.declared.Size.{Size}
 use Rattle.definitions.specs.declared.Trailing.{Trailing}
 use Rattle.bits.specs.Capped.{capped_number}
@@ -74,13 +74,13 @@ module _ (s rows values fields : List ℕ) (i n : ℕ) where
       later-fine Trailing.Plain = size-fine
       later-fine Trailing.Padded = by (is_array_field (here j).field) (here j).padded_size padding-fine
         where
-          by : (b : Bool) (p : MaybeNumber) → bad_maybe too_large p ≡ false → large_size (pick b (outer_size (here j).field_size p) (here j).field_size) ≡ false
-          by true MaybeNumber.None e = size-fine
-          by true (MaybeNumber.Some bits) e = e
+          by : (b : Bool) (p : Option ℕ) → bad_maybe too_large p ≡ false → large_size (pick b (outer_size (here j).field_size p) (here j).field_size) ≡ false
+          by true None e = size-fine
+          by true (Some bits) e = e
           by false p e = size-fine
 
       -- as the tables give it, capped
-      pub read-padding : {p : MaybeNumber} → p ≡ capped_number (here j).padded_size → p ≡ (here j).padded_size
+      pub read-padding : {p : Option ℕ} → p ≡ capped_number (here j).padded_size → p ≡ (here j).padded_size
       read-padding e = e ∙ number-fine (here j).padded_size padding-fine
 
   -- a field as it is read at its place

@@ -1,12 +1,10 @@
 -- The definitions' block, and `Emit`, that the by-value ones stand for.
 -- Assumes nothing.
-use Rattle.std.specs.Prelude.{[], ℕ, ◌<◌, ◌^◌}
+use Rattle.std.specs.Prelude.{Option, Some, None, [], ℕ, ◌<◌, ◌^◌}
 use Rattle.definitions.specs.Bytes.{Text, text, part}
 use Rattle.definitions.specs.Blocks.{named, Block}
 use Rattle.definitions.specs.FieldParser.{Emit, appends, silent, refuses}
 use Rattle.definitions.specs.declared.Part.{Part}
-use Rattle.definitions.specs.declared.MaybePart.{MaybePart}
-use Rattle.definitions.specs.declared.MaybeNumber.{MaybeNumber}
 use Rattle.definitions.specs.declared.Modifier.{Modifier}
 use Rattle.definitions.specs.declared.Options.{Options}
 use Rattle.definitions.specs.declared.ElementSize.{ElementSize}
@@ -17,14 +15,14 @@ use Rattle.emits.specs.declared.BlockAt.{BlockAt}
 use Rattle.emits.specs.declared.EmitAt.{EmitAt}
 
 -- `type_name`
-abbrev pub type_text : Text → MaybePart → Text
-type_text s MaybePart.None = []
-type_text s (MaybePart.Some type) = part s type
+abbrev pub type_text : Text → Option Part → Text
+type_text s None = []
+type_text s (Some type) = part s type
 
 -- `with_padding`, of padded bytes; `w` is the size variable's bits, which are not written
-abbrev pub array_block : Text → Options → ℕ → MaybeNumber → Part → MaybePart → Element → Modifier → ElementSize → ArraySize → Block
-array_block s o w MaybeNumber.None id type element modifier e n = Block.array modifier w (array_of o (part s id) (type_text s type) element e n)
-array_block s o w (MaybeNumber.Some bytes) id type element modifier e n =
+abbrev pub array_block : Text → Options → ℕ → Option ℕ → Part → Option Part → Element → Modifier → ElementSize → ArraySize → Block
+array_block s o w None id type element modifier e n = Block.array modifier w (array_of o (part s id) (type_text s type) element e n)
+array_block s o w (Some bytes) id type element modifier e n =
     Block.padded_array bytes modifier w (array_of o (part s id) (type_text s type) element e n)
 
 -- `bits` gives the bits of an array's size variable: they are not written

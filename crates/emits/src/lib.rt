@@ -2,8 +2,21 @@
 // writes its block. specs/BlockOf says what it stands for; specs/Target has the fields of a target by index.
 #![tactic(auto)]
 
-use definitions::{ArraySize, ElementSize, MaybeNumber, MaybePart, Modifier, Part, Refusal};
+ghost use Rattle.emits.specs.Target.{Fine};
+
+use definitions::{ArraySize, ElementSize, Modifier, Options, Part, Refusal};
 use elements::Element;
+use tables::Tables;
+
+// The target: the declaration with the index i, of n fields, and the options of its parser. It is behind refusals 3 and 7, so that no size is over the limit.
+#[derive(Clone, Copy)]
+pub struct Target<'a> {
+    pub tables: &'a Tables<'a>,
+    pub i: usize,
+    pub n: usize,
+    pub options: Options,
+    ghost fine: { Fine tables.now i n },
+}
 
 #[derive(Clone, Copy)]
 pub enum BlockAt {
@@ -11,9 +24,9 @@ pub enum BlockAt {
     PayloadUpTo(u64),
     PayloadToEnd,
     Array {
-        padding: MaybeNumber,
+        padding: Option<u64>,
         id: Part,
-        type_id: MaybePart,
+        type_id: Option<Part>,
         element: Element,
         modifier: Modifier,
         element_size: ElementSize,

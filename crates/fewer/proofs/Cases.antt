@@ -1,6 +1,7 @@
 -- Computed tests of `sound`: a catalogue of an enum, a struct and a packet, and a fault in it for each test but the counts of 3; and the theorem put to
 -- use on any catalogue.
 -- Assumes nothing.
+use Rattle.std.specs.Prelude.{Ok}
 use mathlib.Core.Path.{◌≡◌, refl}
 use mathlib.Core.Bool.{Bool, true, false, ◌&&◌}
 use mathlib.Core.List.{List, [], ◌∷◌, ◌++◌}
@@ -15,7 +16,6 @@ use Rattle.definitions.specs.Sizes.{same_name, new_schema}
 use Rattle.definitions.specs.Refusals.{is_frame, verdict}
 use Rattle.definitions.specs.declared.Field.{Field}
 use Rattle.definitions.specs.declared.Head.{Head}
-use Rattle.definitions.specs.declared.Verdict.{Verdict}
 use Rattle.definitions.proofs.Opened.{everything}
 use Rattle.fewer.specs.Sound.{sound}
 use Rattle.fewer.proofs.Fewer.{Sublist, FewerFields}
@@ -126,5 +126,5 @@ first-few (d ∷ ds) = nor _ _ (at_most d.fields) (first-few ds)
 
 first_passes : (t : Text) (k : Head) (ps qs : List Declaration) → sound t ps qs ≡ true → is_keyword (part t k.target) ≡ false
     → any (λ (d : Declaration). same_name t d.decl.id k.target && is_frame d.decl.desc) (ps ++ qs) ≡ true
-    → verdict t k (ps ++ first_alone qs) (new_schema t (ps ++ first_alone qs)) ≡ Verdict.Pass
+    → verdict t k (ps ++ first_alone qs) (new_schema t (ps ++ first_alone qs)) ≡ (Ok tt)
 first_passes t k ps qs e word target = passes t k ps qs (first_alone qs) e (first-fewer qs) (first-few qs) word target

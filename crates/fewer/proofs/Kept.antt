@@ -1,10 +1,10 @@
 -- Refusals that read no sizes: where declarations meet none of 16, 4, 5 and 6, the same with fewer fields meet none; 17 where no size is stated; and
 -- 9 where the target is one of the declarations.
 -- Assumes nothing.
+use Rattle.std.specs.Prelude.{Option, Some, None}
 use mathlib.Core.Path.{◌≡◌, refl, ap, ◌∙◌}
 use mathlib.Core.Bool.{Bool, true, false, not, ◌||◌, ◌&&◌}
 use mathlib.Core.List.{List, [], ◌∷◌, ◌++◌}
-use mathlib.Core.Option.{Option, some}
 use lib.Dec.{ltb}
 use lib.ListN.{length}
 use Rattle.definitions.specs.Bytes.{Text, any, part}
@@ -13,8 +13,6 @@ use Rattle.definitions.specs.Record.{Declaration}
 use Rattle.definitions.specs.Sizes.{Row, same_name, parent_id, annotate_decl, annotate_from}
 use Rattle.definitions.specs.Refusals.{field_names, fields_names, decl_names, declarations_names, any_keyword, keyword_name, too_many, duplicate_name, find, is_frame, is_enum_desc, is_there, lacks, bad_name, bad_type, bad_names, unknown_from, bad_number, bad_decl, out_of_range, differs, misstated, is_target, no_target}
 use Rattle.definitions.specs.declared.Part.{Part}
-use Rattle.definitions.specs.declared.MaybePart.{MaybePart}
-use Rattle.definitions.specs.declared.MaybeSize.{MaybeSize}
 use Rattle.definitions.specs.declared.Head.{Head}
 use Rattle.definitions.specs.declared.FieldDesc.{FieldDesc}
 use Rattle.definitions.specs.declared.Field.{Field}
@@ -91,14 +89,14 @@ module _ (t : Text) where
   find-fewer (FewerFields.more {d} {e} {ds} {es} q r h) name = rw q (by (same_name t e.decl.id name) (find-fewer h name))
     where
       by : (b : Bool) → {x y : Option DeclDesc} → x ≡ y
-          → ◌≡◌ {A = Option DeclDesc} (elim b [ true ↦ some e.decl.desc | false ↦ x ]) (elim b [ true ↦ some e.decl.desc | false ↦ y ])
+          → ◌≡◌ {A = Option DeclDesc} (elim b [ true ↦ Some e.decl.desc | false ↦ x ]) (elim b [ true ↦ Some e.decl.desc | false ↦ y ])
       by true k = refl
       by false k = k
 
   module _ (before after : List Declaration) (earlier : FewerFields before after) where
-    bad-name : (ok : DeclDesc → Bool) (name : MaybePart) → bad_name t before ok name ≡ bad_name t after ok name
-    bad-name ok MaybePart.None = refl
-    bad-name ok (MaybePart.Some name) = ap (lacks ok) (find-fewer earlier name)
+    bad-name : (ok : DeclDesc → Bool) (name : Option Part) → bad_name t before ok name ≡ bad_name t after ok name
+    bad-name ok None = refl
+    bad-name ok (Some name) = ap (lacks ok) (find-fewer earlier name)
 
     bad-type : (d : FieldDesc) → bad_type t before d ≡ bad_type t after d
     bad-type (FieldDesc.Checksum of) = refl
@@ -109,12 +107,12 @@ module _ (t : Text) where
     bad-type FieldDesc.Body = refl
     bad-type (FieldDesc.Payload modifier) = refl
     bad-type (FieldDesc.FixedScalar width value) = refl
-    bad-type (FieldDesc.FixedEnum type tag) = bad-name is_enum_desc (MaybePart.Some type)
+    bad-type (FieldDesc.FixedEnum type tag) = bad-name is_enum_desc (Some type)
     bad-type (FieldDesc.Reserved width) = refl
     bad-type (FieldDesc.Array id width type modifier size) = bad-name is_there type
     bad-type (FieldDesc.Scalar id width) = refl
     bad-type (FieldDesc.Flag id) = refl
-    bad-type (FieldDesc.Typedef id type) = bad-name is_there (MaybePart.Some type)
+    bad-type (FieldDesc.Typedef id type) = bad-name is_there (Some type)
 
     bad-types : (fs : List Field) → any (λ (f : Field). bad_type t before f.desc) fs ≡ any (λ (f : Field). bad_type t after f.desc) fs
     bad-types [] = refl
@@ -147,9 +145,9 @@ module _ (t : Text) where
 
   -- ---- 17
 
-  unstated : (bits : MaybeSize) (size : Size) → is_stated bits ≡ false → differs bits size ≡ false
-  unstated MaybeSize.None size e = refl
-  unstated (MaybeSize.Some n) size e = impossible (cc)
+  unstated : (bits : Option Size) (size : Size) → is_stated bits ≡ false → differs bits size ≡ false
+  unstated None size e = refl
+  unstated (Some n) size e = impossible (cc)
 
   pub not-misstated : (rows : List Row) (ds : List Declaration) → any stated ds ≡ false → misstated (annotate_from t rows ds) ≡ false
   unfolding misstated annotate_from

@@ -1,6 +1,8 @@
 -- To be read first: where the computed test `sound` (Sound) holds of a catalogue with the types `ps` and the frames `qs`, its declarations with fewer
 -- fields in the frames, at most 64 in each, pass refusals 16, 3 to 9 and 17 under every head whose target is one of the packets and structs.
 -- Assumes nothing.
+use Rattle.std.specs.Prelude.{Ok}
+use Rattle.definitions.specs.Refusals.{Verdict, declarations_names, any_keyword, duplicate_name, unknown_name, is_frame, out_of_range, large, ragged, refuse_if, verdict}
 use mathlib.Core.Path.{◌≡◌, refl, ◌∙◌}
 use mathlib.Core.Bool.{Bool, true, false, not, ◌&&◌}
 use mathlib.Core.List.{List, [], ◌∷◌, ◌++◌}
@@ -13,10 +15,8 @@ use Rattle.definitions.specs.Bytes.{Text, any, part}
 use Rattle.definitions.specs.Keywords.{is_keyword}
 use Rattle.definitions.specs.Record.{Declaration}
 use Rattle.definitions.specs.Sizes.{Row, same_name, annotate_from, new_schema}
-use Rattle.definitions.specs.Refusals.{declarations_names, any_keyword, duplicate_name, unknown_name, is_frame, out_of_range, large, ragged, refuse_if, verdict}
 use Rattle.definitions.specs.declared.Head.{Head}
 use Rattle.definitions.specs.declared.Refusal.{Refusal}
-use Rattle.definitions.specs.declared.Verdict.{Verdict}
 use Rattle.lengths.proofs.Booleans.{impossible}
 use Rattle.fewer.proofs.Fewer.{FewerFields}
 use Rattle.fewer.specs.Sound.{crowded, stated, wide, stray_in, rows_of, faults, sound}
@@ -71,7 +71,7 @@ is-sound t ps qs e = part-by-part t ps qs (unmet (faults t ps qs) e)
 
 -- ---- the verdict
 
-passed : (b : Bool) (why : Refusal) (v : Verdict) → b ≡ false → v ≡ Verdict.Pass → refuse_if b why v ≡ Verdict.Pass
+passed : (b : Bool) (why : Refusal) (v : Verdict) → b ≡ false → v ≡ (Ok tt) → refuse_if b why v ≡ (Ok tt)
 passed true why v e h = impossible (cc)
 passed false why v e h = h
 
@@ -110,7 +110,7 @@ module _ (t : Text) (ps qs qs' : List Declaration) (s : Faultless t ps qs) (fewe
 
   pub sound-passes : (k : Head) → any crowded qs' ≡ false → is_keyword (part t k.target) ≡ false
       → any (λ (d : Declaration). same_name t d.decl.id k.target && is_frame d.decl.desc) (ps ++ qs) ≡ true
-      → verdict t k (ps ++ qs') (new_schema t (ps ++ qs')) ≡ Verdict.Pass
+      → verdict t k (ps ++ qs') (new_schema t (ps ++ qs')) ≡ (Ok tt)
   unfolding verdict
   sound-passes k few word target =
       passed _ _ _ (no-keyword t k all-fewer word s.names)
@@ -128,5 +128,5 @@ pub passes : (t : Text) (k : Head) (ps qs qs' : List Declaration) → sound t ps
     -- the target's name is no keyword, and one of the packets and structs
     → is_keyword (part t k.target) ≡ false
     → any (λ (d : Declaration). same_name t d.decl.id k.target && is_frame d.decl.desc) (ps ++ qs) ≡ true
-    → verdict t k (ps ++ qs') (new_schema t (ps ++ qs')) ≡ Verdict.Pass
+    → verdict t k (ps ++ qs') (new_schema t (ps ++ qs')) ≡ (Ok tt)
 passes t k ps qs qs' e fewer few word target = sound-passes t ps qs qs' (is-sound t ps qs e) fewer k few word target

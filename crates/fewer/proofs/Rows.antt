@@ -1,9 +1,9 @@
 -- A field's size and refusal 8 are the same in all rows that find the types as `front` does: in `front`, and in it with more rows behind it.
 -- Assumes nothing.
+use Rattle.std.specs.Prelude.{Option, Some, None}
 use mathlib.Core.Path.{◌≡◌, refl, ap, ◌∙◌}
 use mathlib.Core.Bool.{Bool, true, false, ◌&&◌, ◌||◌}
 use mathlib.Core.List.{List, [], ◌∷◌, ◌++◌, append-nil, append_assoc}
-use mathlib.Core.Option.{Option, some}
 use Prim.Native.Nat.{ℕ, ◌^◌, ◌≤◌}
 use borrow.Author.Tests.{ltb-false}
 use lib.Dec.{ltb}
@@ -11,12 +11,10 @@ use Rattle.definitions.specs.Bytes.{Text, any}
 use Rattle.definitions.specs.Record.{Declaration}
 use Rattle.definitions.specs.Sizes.{Row, Schema, static_width, same_name, lookup, total_of, given, has_payload_size, has_array_size, array_bits, desc_size, annotate_field, enum_of, annotate_decl, annotate_from}
 use Rattle.definitions.specs.Refusals.{ragged_size, ragged_array, ragged_enum, ragged_desc, is_optional, ragged_field, ragged}
-use Rattle.definitions.specs.declared.EnumOf.{EnumOf}
+use Rattle.definitions.specs.declared.EnumKind.{EnumKind}
 use Rattle.definitions.specs.declared.Part.{Part}
-use Rattle.definitions.specs.declared.MaybePart.{MaybePart}
-use Rattle.definitions.specs.declared.MaybeNumber.{MaybeNumber}
 use Rattle.definitions.specs.declared.FieldDesc.{FieldDesc}
-use Rattle.definitions.specs.declared.Cond.{Cond}
+use Rattle.definitions.specs.declared.Condition.{Condition}
 use Rattle.definitions.specs.declared.Field.{Field}
 use Rattle.definitions.specs.declared.Size.{Size}
 use Rattle.lengths.proofs.Booleans.{impossible, neither}
@@ -61,8 +59,8 @@ module _ (t : Text) where
   found_before [] more name e = impossible (cc)
   found_before (r ∷ rows) more name e = by (same_name t r.decl.id name) e (found_before rows more name)
     where
-      by : (b : Bool) → {x y : Option Row} → is_missing (elim b [ true ↦ some r | false ↦ y ]) ≡ false → (is_missing y ≡ false → x ≡ y)
-          → ◌≡◌ {A = Option Row} (elim b [ true ↦ some r | false ↦ x ]) (elim b [ true ↦ some r | false ↦ y ])
+      by : (b : Bool) → {x y : Option Row} → is_missing (elim b [ true ↦ Some r | false ↦ y ]) ≡ false → (is_missing y ≡ false → x ≡ y)
+          → ◌≡◌ {A = Option Row} (elim b [ true ↦ Some r | false ↦ x ]) (elim b [ true ↦ Some r | false ↦ y ])
       by true e k = refl
       by false e k = k e
 
@@ -83,12 +81,12 @@ module _ (t : Text) where
 
       -- ---- sizes
 
-      array-width : (fs : List Field) (id : Part) (width : MaybeNumber) (type : MaybePart) (size : MaybeNumber) → lacks_type t front type ≡ false
+      array-width : (fs : List Field) (id : Part) (width : Option ℕ) (type : Option Part) (size : Option ℕ) → lacks_type t front type ≡ false
           → static_width (array_bits t rows fs id width type size) ≡ static_width (array_bits t front [] id width type size)
-      array-width fs id width type MaybeNumber.None e = given-width (has_array_size t fs id)
-      array-width fs id (MaybeNumber.Some width) type (MaybeNumber.Some size) e = refl
-      array-width fs id MaybeNumber.None (MaybePart.Some type) (MaybeNumber.Some size) e = rw (total-same type e)
-      array-width fs id MaybeNumber.None MaybePart.None (MaybeNumber.Some size) e = refl
+      array-width fs id width type None e = given-width (has_array_size t fs id)
+      array-width fs id (Some width) type (Some size) e = refl
+      array-width fs id None (Some type) (Some size) e = rw (total-same type e)
+      array-width fs id None None (Some size) e = refl
 
       desc-width : (fs : List Field) (d : FieldDesc) → lacks_type t front (type_of d) ≡ false
           → static_width (desc_size t rows fs d) ≡ static_width (desc_size t front [] d)
@@ -112,20 +110,20 @@ module _ (t : Text) where
           → static_width (annotate_field t rows fs f) ≡ static_width (annotate_field t front [] f)
       field-width fs f e = by f.cond
         where
-          sized : List Row → List Field → Cond → Size
-          sized rs gs c = elim c [ Cond.None ↦ desc_size t rs gs f.desc | Cond.Some id value ↦ Size.Dynamic ]
+          sized : List Row → List Field → Option Condition → Size
+          sized rs gs c = elim c [ None ↦ desc_size t rs gs f.desc | Some cond ↦ Size.Dynamic ]
 
-          by : (c : Cond) → static_width (sized rows fs c) ≡ static_width (sized front [] c)
-          by Cond.None = desc-width fs f.desc e
-          by (Cond.Some id value) = refl
+          by : (c : Option Condition) → static_width (sized rows fs c) ≡ static_width (sized front [] c)
+          by None = desc-width fs f.desc e
+          by (Some cond) = refl
 
       -- ---- 8
 
-      ragged-array : (width : MaybeNumber) (type : MaybePart) → lacks_type t front type ≡ false
+      ragged-array : (width : Option ℕ) (type : Option Part) → lacks_type t front type ≡ false
           → ragged_array t rows width type ≡ ragged_array t front width type
-      ragged-array (MaybeNumber.Some width) type e = refl
-      ragged-array MaybeNumber.None (MaybePart.Some type) e = ap ragged_size (total-same type e)
-      ragged-array MaybeNumber.None MaybePart.None e = refl
+      ragged-array (Some width) type e = refl
+      ragged-array None (Some type) e = ap ragged_size (total-same type e)
+      ragged-array None None e = refl
 
       ragged-desc : (optional : Bool) (d : FieldDesc) → lacks_type t front (type_of d) ≡ false
           → ragged_desc t rows optional d ≡ ragged_desc t front optional d
@@ -142,7 +140,7 @@ module _ (t : Text) where
       ragged-desc optional (FieldDesc.Array id width type modifier size) e = ragged-array width type e
       ragged-desc optional (FieldDesc.Scalar id width) e = refl
       ragged-desc optional (FieldDesc.Flag id) e = refl
-      ragged-desc optional (FieldDesc.Typedef id type) e = ap (λ (o : EnumOf). optional && ragged_enum o) (enum_same type e)
+      ragged-desc optional (FieldDesc.Typedef id type) e = ap (λ (o : Option EnumKind). optional && ragged_enum o) (enum_same type e)
 
       not-ragged : (fs : List Field) → any (stray t front) fs ≡ false → any (ragged_field t rows) fs ≡ false
       not-ragged [] e = refl

@@ -1,10 +1,10 @@
 -- Refusal 7: frames with at most 64 fields, each of at most 2 ^ 19 static bits, stay within 2 ^ 31 - 1 bits, where every row before them has at most
 -- 2 ^ 29 with its parents: each frame adds at most 2 ^ 25 to what a later one takes from its parent, and there are at most 32.
 -- Assumes nothing.
+use Rattle.std.specs.Prelude.{Option, Some, None}
 use mathlib.Core.Path.{◌≡◌, refl}
 use mathlib.Core.Bool.{Bool, true, false, ◌||◌}
 use mathlib.Core.List.{List, [], ◌∷◌, ◌++◌}
-use mathlib.Core.Option.{Option, none, some}
 use Prim.Native.Nat.{ℕ, ◌+◌, ◌-◌, ◌*◌, ◌^◌, ◌≤◌}
 use native.Mathlib.Omega.{arith}
 use lib.Dec.{ltb}
@@ -15,8 +15,6 @@ use Rattle.definitions.specs.Record.{Declaration}
 use Rattle.definitions.specs.Sizes.{Row, Annotated, add_size, static_width, same_name, total_size, lookup, parent_of, padding_bits, padded_by, annotate_fields, is_payload, outer_size, fields_size, payloads_size, parent_id, custom_size, decl_size_of, payload_size_of, annotate_decl, annotate_from}
 use Rattle.definitions.specs.Refusals.{outside, bad_width, bad_maybe, bad_number, bad_decl, too_large, large_size, large_field, static_sum, large_row, large_entry, large}
 use Rattle.definitions.specs.declared.Part.{Part}
-use Rattle.definitions.specs.declared.MaybePart.{MaybePart}
-use Rattle.definitions.specs.declared.MaybeNumber.{MaybeNumber}
 use Rattle.definitions.specs.declared.FieldDesc.{FieldDesc}
 use Rattle.definitions.specs.declared.Field.{Field}
 use Rattle.definitions.specs.declared.DeclDesc.{DeclDesc}
@@ -45,13 +43,13 @@ sum-width (Size.Static a) (Size.Static b) = omega arith
 sum-width (Size.Static a) Size.Dynamic = omega arith
 sum-width (Size.Static a) Size.Unknown = omega arith
 
-abbrev padded_bits : MaybeNumber → ℕ
-padded_bits MaybeNumber.None = 0
-padded_bits (MaybeNumber.Some bits) = bits
+abbrev padded_bits : Option ℕ → ℕ
+padded_bits None = 0
+padded_bits (Some bits) = bits
 
-not-padded : (p : MaybeNumber) → padded_bits p ≤ 2 ^ 19 → bad_maybe too_large p ≡ false
-not-padded MaybeNumber.None h = refl
-not-padded (MaybeNumber.Some bits) h = le-ltb (2 ^ 31 - 1) bits (omega arith)
+not-padded : (p : Option ℕ) → padded_bits p ≤ 2 ^ 19 → bad_maybe too_large p ≡ false
+not-padded None h = refl
+not-padded (Some bits) h = le-ltb (2 ^ 31 - 1) bits (omega arith)
 
 -- ---- the fields of one declaration
 
@@ -77,9 +75,9 @@ unfolding static_sum
 sum-narrow [] h = omega arith
 sum-narrow (a ∷ xs) h = let n = h.0.size in omega (arith, sum-narrow xs h.1)
 
-outer-narrow : (z : Size) (p : MaybeNumber) → static_width z ≤ 2 ^ 19 → padded_bits p ≤ 2 ^ 19 → static_width (outer_size z p) ≤ 2 ^ 19
-outer-narrow z MaybeNumber.None h k = h
-outer-narrow z (MaybeNumber.Some bits) h k = k
+outer-narrow : (z : Size) (p : Option ℕ) → static_width z ≤ 2 ^ 19 → padded_bits p ≤ 2 ^ 19 → static_width (outer_size z p) ≤ 2 ^ 19
+outer-narrow z None h k = h
+outer-narrow z (Some bits) h k = k
 
 added : (b : Bool) (sum z : Size) (n : ℕ) → static_width z ≤ n → static_width (pick b sum (add_size sum z)) ≤ static_width sum + n
 added true sum z n h = omega arith
@@ -126,9 +124,9 @@ padded-range : (fs : List Field) → any wrong_field fs ≡ false → padded_bit
 padded-range [] e = omega arith
 padded-range (f ∷ fs) e = padding-range f.desc (neither (wrong_field f) (any wrong_field fs) e).0
 
-custom-range : (width : MaybeNumber) → bad_maybe (outside 1 4096) width ≡ false → static_width (custom_size width) ≤ 2 ^ 25
-custom-range MaybeNumber.None e = omega arith
-custom-range (MaybeNumber.Some n) e = omega (arith, ltb-false 4096 n (neither (ltb n 1) (ltb 4096 n) e).1)
+custom-range : (width : Option ℕ) → bad_maybe (outside 1 4096) width ≡ false → static_width (custom_size width) ≤ 2 ^ 25
+custom-range None e = omega arith
+custom-range (Some n) e = omega (arith, ltb-false 4096 n (neither (ltb n 1) (ltb 4096 n) e).1)
 
 width-range : (n : ℕ) → bad_width n ≡ false → n ≤ 2 ^ 25
 width-range n e = omega (arith, ltb-false 64 n (neither (ltb n 1) (ltb 64 n) e).1)
@@ -162,22 +160,22 @@ below-snoc m n [] r le h k = (k, tt)
 below-snoc m n (q ∷ rows) r le h k = let a = h.0 in (omega (arith, a), below-snoc m n rows r le h.1 k)
 
 module _ (t : Text) where
-  taken-below : (n : ℕ) (rows : List Row) (name : Part) → Below n rows → static_width (parent_of t rows (MaybePart.Some name)) ≤ n
+  taken-below : (n : ℕ) (rows : List Row) (name : Part) → Below n rows → static_width (parent_of t rows (Some name)) ≤ n
   unfolding lookup
   taken-below n [] name h = omega arith
   taken-below n (r ∷ rows) name h = by (same_name t r.decl.id name) h.0 (taken-below n rows name h.1)
     where
       taken : Option Row → Size
-      taken o = elim o [ some r ↦ add_size r.decl_size r.parent_size | none ↦ Size.Static 0 ]
+      taken o = elim o [ Some r ↦ add_size r.decl_size r.parent_size | None ↦ Size.Static 0 ]
 
       by : (b : Bool) → own_bits r ≤ n → static_width (taken (lookup t rows name)) ≤ n
-          → static_width (taken (elim b [ true ↦ some r | false ↦ lookup t rows name ])) ≤ n
+          → static_width (taken (elim b [ true ↦ Some r | false ↦ lookup t rows name ])) ≤ n
       by true k m = k
       by false k m = m
 
-  parent-below : (n : ℕ) (rows : List Row) (name : MaybePart) → Below n rows → static_width (parent_of t rows name) ≤ n
-  parent-below n rows MaybePart.None h = omega arith
-  parent-below n rows (MaybePart.Some name) h = taken-below n rows name h
+  parent-below : (n : ℕ) (rows : List Row) (name : Option Part) → Below n rows → static_width (parent_of t rows name) ≤ n
+  parent-below n rows None h = omega arith
+  parent-below n rows (Some name) h = taken-below n rows name h
 
   module _ (front rows : List Row) (finds : Finds t front rows) where
     annotated-narrow : (fs later : List Field) → any (stray t front) later ≡ false → any wrong_field later ≡ false

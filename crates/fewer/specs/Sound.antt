@@ -1,16 +1,15 @@
 -- What is computed of a catalogue: declarations of which the last, the frames, may have more fields than a record. `sound` is to be read
 -- before Passes, which states what it is for.
 -- Assumes nothing.
-use Rattle.std.specs.Prelude.{Bool, true, false, not, ◌||◌, List, [], ◌∷◌, ◌++◌, ℕ, ◌^◌, ltb, length}
-use Rattle.std.proofs.Math.Option.{Option, none, some}
+use Rattle.definitions.specs.declared.Part.{Part}
+use Rattle.definitions.specs.declared.Size.{Size}
+use Rattle.std.specs.Prelude.{Option, Some, None, Bool, true, false, not, ◌||◌, List, [], ◌∷◌, ◌++◌, ℕ, ◌^◌, ltb, length}
 use Rattle.definitions.specs.Bytes.{Text, any}
 use Rattle.definitions.specs.Record.{Declaration}
 use Rattle.definitions.specs.Sizes.{Row, Schema, add_size, static_width, lookup, annotate_field, new_schema}
 use Rattle.definitions.specs.Refusals.{declarations_names, any_keyword, duplicate_name, unknown_name, out_of_range, large, ragged_field, ragged}
-use Rattle.definitions.specs.declared.MaybePart.{MaybePart}
 use Rattle.definitions.specs.declared.FieldDesc.{FieldDesc}
 use Rattle.definitions.specs.declared.Field.{Field}
-use Rattle.definitions.specs.declared.MaybeSize.{MaybeSize}
 
 -- ---- tests of one thing
 
@@ -18,9 +17,9 @@ use Rattle.definitions.specs.declared.MaybeSize.{MaybeSize}
 abbrev pub crowded : Declaration → Bool
 crowded d = ltb 64 (length d.fields)
 
-abbrev pub is_stated : MaybeSize → Bool
-is_stated MaybeSize.None = false
-is_stated (MaybeSize.Some size) = true
+abbrev pub is_stated : Option Size → Bool
+is_stated None = false
+is_stated (Some size) = true
 
 -- a declaration with a line `bits=` that says a size
 abbrev pub stated : Declaration → Bool
@@ -34,30 +33,30 @@ abbrev pub wide : Row → Bool
 wide r = ltb (2 ^ 29) (own_bits r)
 
 -- the type that a field names
-abbrev pub type_of : FieldDesc → MaybePart
-type_of (FieldDesc.Checksum of) = MaybePart.None
-type_of (FieldDesc.Padding size) = MaybePart.None
-type_of (FieldDesc.Size of width) = MaybePart.None
-type_of (FieldDesc.Count of width) = MaybePart.None
-type_of (FieldDesc.ElementSize of width) = MaybePart.None
-type_of FieldDesc.Body = MaybePart.None
-type_of (FieldDesc.Payload modifier) = MaybePart.None
-type_of (FieldDesc.FixedScalar width value) = MaybePart.None
-type_of (FieldDesc.FixedEnum type tag) = MaybePart.Some type
-type_of (FieldDesc.Reserved width) = MaybePart.None
+abbrev pub type_of : FieldDesc → Option Part
+type_of (FieldDesc.Checksum of) = None
+type_of (FieldDesc.Padding size) = None
+type_of (FieldDesc.Size of width) = None
+type_of (FieldDesc.Count of width) = None
+type_of (FieldDesc.ElementSize of width) = None
+type_of FieldDesc.Body = None
+type_of (FieldDesc.Payload modifier) = None
+type_of (FieldDesc.FixedScalar width value) = None
+type_of (FieldDesc.FixedEnum type tag) = Some type
+type_of (FieldDesc.Reserved width) = None
 type_of (FieldDesc.Array id width type modifier size) = type
-type_of (FieldDesc.Scalar id width) = MaybePart.None
-type_of (FieldDesc.Flag id) = MaybePart.None
-type_of (FieldDesc.Typedef id type) = MaybePart.Some type
+type_of (FieldDesc.Scalar id width) = None
+type_of (FieldDesc.Flag id) = None
+type_of (FieldDesc.Typedef id type) = Some type
 
 abbrev pub is_missing : Option Row → Bool
-is_missing none = true
-is_missing (some r) = false
+is_missing None = true
+is_missing (Some r) = false
 
 -- a type that is none of the rows
-abbrev pub lacks_type : Text → List Row → MaybePart → Bool
-lacks_type t rows MaybePart.None = false
-lacks_type t rows (MaybePart.Some name) = is_missing (lookup t rows name)
+abbrev pub lacks_type : Text → List Row → Option Part → Bool
+lacks_type t rows None = false
+lacks_type t rows (Some name) = is_missing (lookup t rows name)
 
 -- a field whose type is none of the rows, that refusal 8 turns back, or with more than 2 ^ 19 static bits (those do not depend on the other fields)
 abbrev pub stray : Text → List Row → Field → Bool

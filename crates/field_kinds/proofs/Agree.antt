@@ -1,13 +1,14 @@
 -- The kind with its names as parts of the record is the definitions' kind.
 -- Assumes nothing.
-use mathlib.Core.Bool.{Bool, true, false}
+use Rattle.std.specs.Prelude.{Option, Some, None}
+use mathlib.Core.Bool.{Bool, true, false, ◌||◌}
 use mathlib.Core.Path.{◌≡◌, refl, ap, ◌∙◌}
 use Rattle.definitions.specs.Bytes.{Text, text, pick, part}
 use Rattle.definitions.specs.Sizes.{enum_of, is_payload_id}
 use Rattle.definitions.specs.Blocks.{Kind, named}
 use Rattle.definitions.specs.FieldParser.{Setting, kind_of, is_cond_for}
 use Rattle.definitions.specs.FieldParser as parser
-use Rattle.definitions.specs.declared.EnumOf.{EnumOf}
+use Rattle.definitions.specs.declared.EnumKind.{EnumKind}
 use Rattle.definitions.specs.declared.Arrays.{Arrays}
 use Rattle.definitions.specs.declared.Part.{Part}
 use Rattle.definitions.specs.declared.FieldDesc.{FieldDesc}
@@ -34,13 +35,18 @@ unfolding kind_in
 scalar-picked m s id true = refl
 scalar-picked m s id false = refl
 
-enum-picked : (m : Arrays) (s : Text) (id type : Part) (e : EnumOf)
+tested-picked : (m : Arrays) (s : Text) (id type : Part) (b : Bool)
+    → kind_in m s (text "payload") (pick b (KindAt.OpenEnum id type) (KindAt.ClosedEnum id type))
+    ≡ pick b (Kind.open_enum (named m (part s id) (text "_")) (part s type)) (Kind.closed_enum (named m (part s id) (text "_")) (part s type))
+unfolding kind_in
+tested-picked m s id type true = refl
+tested-picked m s id type false = refl
+
+enum-picked : (m : Arrays) (s : Text) (id type : Part) (e : Option EnumKind)
     → kind_in m s (text "payload") (enum_kind id type e) ≡ parser.enum_kind (named m (part s id) (text "_")) (part s type) e
 unfolding kind_in enum_kind
-enum-picked m s id type (EnumOf.Enum w true k) = refl
-enum-picked m s id type (EnumOf.Enum w false true) = refl
-enum-picked m s id type (EnumOf.Enum w false false) = refl
-enum-picked m s id type EnumOf.None = refl
+enum-picked m s id type (Some kind) = tested-picked m s id type (kind.is_open || kind.is_complete)
+enum-picked m s id type None = refl
 
 pub kinds-agree : (c : Setting) (d : FieldDesc)
     → kind_in c.options.arrays c.source (text "payload") (kind_at c.source c.scope (cond_names c.fields) d) ≡ kind_of c d

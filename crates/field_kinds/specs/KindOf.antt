@@ -1,10 +1,10 @@
 -- `kind_of` of the definitions with its names as parts of the record, by the `if` names of the fields: `kinds-agree` (proofs/Agree) says that it is
 -- the same kind.
 -- Assumes nothing.
-use Rattle.std.specs.Prelude.{◌||◌, List}
+use Rattle.std.specs.Prelude.{◌||◌, List, Option, Some, None}
 use Rattle.definitions.specs.Bytes.{Text, pick}
 use Rattle.definitions.specs.Sizes.{Row, enum_of}
-use Rattle.definitions.specs.declared.EnumOf.{EnumOf}
+use Rattle.definitions.specs.declared.EnumKind.{EnumKind}
 use Rattle.definitions.specs.declared.Part.{Part}
 use Rattle.definitions.specs.declared.FieldDesc.{FieldDesc}
 use Rattle.names.specs.Written.{field_name}
@@ -20,9 +20,9 @@ member_kind id = KindAt.Number (WrittenName.Part id) End.Member
 unfoldable pub scalar_kind : Text → List Part → Part → KindAt
 scalar_kind s names id = pick (is_cond_in s names id) (KindAt.Condition id) (member_kind id)
 
-unfoldable pub enum_kind : Part → Part → EnumOf → KindAt
-enum_kind id type (EnumOf.Enum width is_open is_complete) = pick (is_open || is_complete) (KindAt.OpenEnum id type) (KindAt.ClosedEnum id type)
-enum_kind id type EnumOf.None = member_kind id
+unfoldable pub enum_kind : Part → Part → Option EnumKind → KindAt
+enum_kind id type (Some kind) = pick (kind.is_open || kind.is_complete) (KindAt.OpenEnum id type) (KindAt.ClosedEnum id type)
+enum_kind id type None = member_kind id
 
 unfoldable pub kind_at : Text → List Row → List Part → FieldDesc → KindAt
 kind_at s rows names (FieldDesc.Checksum of) = KindAt.Reserved

@@ -3,87 +3,74 @@
 #![tactic(auto)]
 
 ghost use Rattle.std.specs.Prelude.{◌≡◌};
-ghost use Rattle.tables.specs.Tables.{rows_from};
-ghost use Rattle.conditions.specs.IfNames.{names_in};
-ghost use Rattle.field_kinds.specs.KindOf.{enum_kind, scalar_kind, kind_at};
+ghost use Rattle.tables.specs.Tables.{rows_of};
+ghost use Rattle.field_kinds.specs.KindOf.{member_kind, enum_kind, scalar_kind, kind_at};
 
 use bit_fields::{End, KindAt};
-use definitions::{EnumOf, FieldDesc, Part};
+use definitions::{EnumKind, FieldDesc, Part};
 use names::WrittenName;
+use tables::Tables;
 
-fn scalar_kind(rec: &[u8], conds: &[usize], id: Part) -> KindAt
-    ensures { result ≡ scalar_kind rec.now (names_in conds.now) id }
+// `{prefix}{id}_`
+fn member_kind(id: Part) -> KindAt
+    ensures { result ≡ member_kind id }
 {
-    if conditions::is_cond_for(rec, conds, id) {
-        return KindAt::Condition { id };
-    }
     KindAt::Number {
         name: WrittenName::Part(id),
         end: End::Member,
     }
 }
 
-// A closed enum is tested by `IsValid`; `complete` spares the test here.
-fn enum_kind(id: Part, type_id: Part, e: EnumOf) -> KindAt
-    ensures { result ≡ enum_kind id type_id e }
+#[tactic(auto, unfolding(crate::specs::KindOf::scalar_kind))]
+fn scalar_kind(rec: &[u8], conds: &[Part], id: Part) -> KindAt
+    ensures { result ≡ scalar_kind rec.now conds.now id }
 {
-    match e {
-        EnumOf::Enum {
-            width: _,
-            open,
-            complete,
-        } => {
-            if open {
-                return KindAt::OpenEnum { id, type_id };
-            }
-            if complete {
-                return KindAt::OpenEnum { id, type_id };
-            }
-            KindAt::ClosedEnum { id, type_id }
-        }
-        EnumOf::None => KindAt::Number {
-            name: WrittenName::Part(id),
-            end: End::Member,
-        },
+    if conditions::is_cond_for(rec, conds, id) {
+        KindAt::Condition { id }
+    } else {
+        member_kind(id)
     }
 }
 
-pub fn kind_of(rec: &[u8], rows: &[u64], conds: &[usize], i: usize, desc: FieldDesc) -> KindAt
-    ensures { result ≡ kind_at rec.now (rows_from rows.now 0 i) (names_in conds.now) desc }
+// A closed enum is tested by `IsValid`; `complete` spares the test here.
+#[tactic(auto, unfolding(crate::specs::KindOf::enum_kind))]
+fn enum_kind(id: Part, type_id: Part, e: Option<EnumKind>) -> KindAt
+    ensures { result ≡ enum_kind id type_id e }
+{
+    match e {
+        Some(kind) if kind.is_open || kind.is_complete => KindAt::OpenEnum { id, type_id },
+        Some(_) => KindAt::ClosedEnum { id, type_id },
+        None => member_kind(id),
+    }
+}
+
+#[tactic(auto, unfolding(crate::specs::KindOf::kind_at))]
+pub fn kind_of(t: &Tables, conds: &[Part], i: usize, desc: FieldDesc) -> KindAt
+    ensures { result ≡ kind_at t.now.source (rows_of t.now i) conds.now desc }
 {
     match desc {
-        FieldDesc::Checksum { field_id: _ } => KindAt::Reserved,
-        FieldDesc::Padding { size: _ } => KindAt::Reserved,
-        FieldDesc::Size { field_id, width: _ } => KindAt::Number {
-            name: names::field_name(rec, field_id),
+        FieldDesc::Size { field_id, .. } => KindAt::Number {
+            name: names::field_name(t.source, field_id),
             end: End::Size,
         },
-        FieldDesc::Count { field_id, width: _ } => KindAt::Number {
+        FieldDesc::Count { field_id, .. } => KindAt::Number {
             name: WrittenName::Part(field_id),
             end: End::Count,
         },
-        FieldDesc::ElementSize { field_id, width: _ } => KindAt::Number {
-            name: names::field_name(rec, field_id),
+        FieldDesc::ElementSize { field_id, .. } => KindAt::Number {
+            name: names::field_name(t.source, field_id),
             end: End::ElementSize,
         },
-        FieldDesc::Body => KindAt::Reserved,
-        FieldDesc::Payload { size_modifier: _ } => KindAt::Reserved,
-        FieldDesc::FixedScalar { width: _, value } => KindAt::FixedScalar { value },
+        FieldDesc::FixedScalar { value, .. } => KindAt::FixedScalar { value },
         FieldDesc::FixedEnum { enum_id, tag_id } => KindAt::FixedEnum { enum_id, tag_id },
-        FieldDesc::Reserved { width: _ } => KindAt::Reserved,
-        FieldDesc::Array {
-            id: _,
-            width: _,
-            type_id: _,
-            size_modifier: _,
-            size: _,
-        } => KindAt::Reserved,
-        FieldDesc::Scalar { id, width: _ } => scalar_kind(rec, conds, id),
+        FieldDesc::Scalar { id, .. } => scalar_kind(t.source, conds, id),
         FieldDesc::Flag { id } => KindAt::Condition { id },
-        FieldDesc::Typedef { id, type_id } => enum_kind(
-            id,
-            type_id,
-            rows::enum_of(rec, rows, i, type_id),
-        ),
+        FieldDesc::Typedef { id, type_id } => enum_kind(id, type_id, rows::enum_of(t, i, type_id)),
+        FieldDesc::Checksum { .. }
+        | FieldDesc::Padding { .. }
+        | FieldDesc::Body
+        | FieldDesc::Payload { .. }
+        | FieldDesc::Reserved { .. }
+        | FieldDesc::Array { .. } => KindAt::Reserved,
     }
 }

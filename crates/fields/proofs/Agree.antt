@@ -1,18 +1,21 @@
 -- What a field comes to with its names as parts of the record is what it comes to by the definitions on an octet boundary.
 -- Assumes nothing.
+use Rattle.std.specs.Prelude.{Option, Some, None}
 use Prim.Native.Nat.{ℕ}
-use mathlib.Core.Bool.{true, false}
+use mathlib.Core.Bool.{Bool, true, false}
 use mathlib.Core.List.{List}
 use mathlib.Core.Path.{◌≡◌, refl}
-use Rattle.definitions.specs.Bytes.{text}
+use Rattle.definitions.specs.Bytes.{text, pick}
+use Rattle.definitions.specs.Blocks.{Block}
 use Rattle.definitions.specs.Sizes.{Annotated, enum_of}
-use Rattle.definitions.specs.FieldParser.{Setting, Emit, appends, size_backing, optional_typedef, parse_optional_field, parse_other, parse_unchecked}
-use Rattle.definitions.specs.declared.EnumOf.{EnumOf}
-use Rattle.definitions.specs.declared.Cond.{Cond}
+use Rattle.definitions.specs.FieldParser.{Setting, Emit, appends, written, member, size_backing, optional_typedef, parse_optional_field, parse_other, parse_unchecked}
+use Rattle.definitions.specs.declared.EnumKind.{EnumKind}
+use Rattle.definitions.specs.declared.Condition.{Condition}
 use Rattle.definitions.specs.declared.FieldDesc.{FieldDesc}
 use Rattle.definitions.specs.declared.Modifier.{Modifier}
 use Rattle.definitions.specs.declared.Part.{Part}
 use Rattle.emits.specs.BlockOf.{block_of, emit_of}
+use Rattle.emits.specs.declared.BlockAt.{BlockAt}
 use Rattle.emits.specs.declared.EmitAt.{EmitAt}
 use Rattle.trailing.proofs.Agree.{typedefs-agree, payloads-agree}
 use Rattle.array_fields.proofs.Agree.{arrays-agree}
@@ -25,15 +28,21 @@ module _ (c : Setting) where
 
   -- ---- an optional field
 
-  optional-typed : (cond : Part) (value : ℕ) (id type : Part) (e : EnumOf)
+  optional-typed : (cond : Part) (value : ℕ) (id type : Part) (e : Option EnumKind)
       → emit (optional_type cond value id type e) ≡ appends (optional_typedef c cond value id type e)
   unfolding block_of
-  optional-typed cond value id type (EnumOf.Enum width true is_complete) = refl
-  optional-typed cond value id type (EnumOf.Enum width false is_complete) = refl
-  optional-typed cond value id type EnumOf.None = refl
+  optional-typed cond value id type (Some kind) = by kind.is_open
+    where
+      by : (b : Bool) → emit (EmitAt.Appends (pick b (BlockAt.OptionalOpen cond value kind.width id type) (BlockAt.OptionalClosed cond value kind.width id type)))
+          ≡ appends
+          (pick b (Block.optional_open (written c cond) value c.options.endianness kind.width (member c id) (written c type))
+          (Block.optional_closed (written c cond) value c.options.endianness kind.width (member c id) (written c type)))
+      by true = refl
+      by false = refl
+  optional-typed cond value id type None = refl
 
   pub optionals-agree : (cond : Part) (value : ℕ) (d : FieldDesc) → emit (optional_at c.source c.scope cond value d) ≡ parse_optional_field c cond value d
-  unfolding optional_at parse_optional_field block_of
+  unfolding parse_optional_field block_of
   optionals-agree cond value (FieldDesc.Checksum of) = refl
   optionals-agree cond value (FieldDesc.Padding size) = refl
   optionals-agree cond value (FieldDesc.Size of width) = refl
@@ -56,7 +65,7 @@ module _ (c : Setting) where
     value d = other_at c.source c.scope c.fields c.options.trailing a later (other_of c.options.endianness d)
 
     pub others-agree : (d : FieldDesc) → emit (value d) ≡ parse_other c 0 a later d
-    unfolding other_at other_of parse_other
+    unfolding parse_other
     others-agree (FieldDesc.Checksum of) = refl
     others-agree (FieldDesc.Padding size) = refl
     others-agree (FieldDesc.Size of width) = refl
@@ -74,16 +83,16 @@ module _ (c : Setting) where
 
     -- ---- a field that is no bit field
 
-    abbrev value_by : Cond → EmitAt
-    value_by cond = elim cond [ Cond.None ↦ value a.field.desc | Cond.Some id is ↦ optional_at c.source c.scope id is a.field.desc ]
+    abbrev value_by : Option Condition → EmitAt
+    value_by cond = elim cond [ None ↦ value a.field.desc | Some given ↦ optional_at c.source c.scope given.id given.value a.field.desc ]
 
-    abbrev emit_by : Cond → Emit
-    emit_by cond = elim cond [ Cond.None ↦ parse_other c 0 a later a.field.desc | Cond.Some id is ↦ parse_optional_field c id is a.field.desc ]
+    abbrev emit_by : Option Condition → Emit
+    emit_by cond = elim cond [ None ↦ parse_other c 0 a later a.field.desc | Some given ↦ parse_optional_field c given.id given.value a.field.desc ]
 
-    by_cond : (cond : Cond) → emit (value_by cond) ≡ emit_by cond
-    by_cond Cond.None = others-agree a.field.desc
-    by_cond (Cond.Some id is) = optionals-agree id is a.field.desc
+    by_cond : (cond : Option Condition) → emit (value_by cond) ≡ emit_by cond
+    by_cond None = others-agree a.field.desc
+    by_cond (Some cond) = optionals-agree cond.id cond.value a.field.desc
 
     pub unchecked-agree : emit (unchecked_at c.source c.scope c.fields c.options a later) ≡ parse_unchecked c 0 a later
-    unfolding unchecked_at parse_unchecked
+    unfolding parse_unchecked
     unchecked-agree = by_cond a.field.cond

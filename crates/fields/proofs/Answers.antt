@@ -1,17 +1,17 @@
 -- The answer for a field with and without a condition; what it stands for, and that its numbers fit.
 -- Assumes nothing.
-use Prim.Native.Nat.{ℕ, ◌+◌, ◌*◌, ◌<◌}
-use mathlib.Core.Bool.{true, false}
+use Rattle.std.specs.Prelude.{Option, Some, None}
+use Prim.Native.Nat.{ℕ, ◌+◌, ◌<◌}
+use mathlib.Core.Bool.{false}
 use mathlib.Core.List.{List}
 use mathlib.Core.Path.{◌≡◌, refl, sym, ap, ◌∙◌}
 use native.Mathlib.Omega.{arith}
-use lib.ListN.{get_or}
 use Rattle.definitions.specs.Bytes.{Text, text}
 use Rattle.definitions.specs.Sizes.{Row, Annotated, enum_of, has_payload_size, desc_size}
 use Rattle.definitions.specs.Refusals.{large_size}
 use Rattle.definitions.specs.FieldParser.{get_trailing_size, size_backing, parse_unchecked}
-use Rattle.definitions.specs.declared.EnumOf.{EnumOf}
-use Rattle.definitions.specs.declared.Cond.{Cond}
+use Rattle.definitions.specs.declared.EnumKind.{EnumKind}
+use Rattle.definitions.specs.declared.Condition.{Condition}
 use Rattle.definitions.specs.declared.Field.{Field}
 use Rattle.definitions.specs.declared.FieldDesc.{FieldDesc}
 use Rattle.definitions.specs.declared.Modifier.{Modifier}
@@ -19,21 +19,19 @@ use Rattle.definitions.specs.declared.Options.{Options}
 use Rattle.definitions.specs.declared.Part.{Part}
 use Rattle.definitions.specs.declared.Size.{Size}
 use Rattle.emits.specs.BlockOf.{emit_of, EmitFits}
-use Rattle.tables.specs.Tables.{field_here, Tables, tables_of, rows_of, fields_of}
+use Rattle.tables.specs.Tables.{Tables, tables_of, rows_of, fields_of}
 use Rattle.emits.specs.Target.{setting_at, annotated_at, rest_at, Fine}
 use Rattle.emits.specs.declared.EmitAt.{EmitAt}
 use Rattle.emits.proofs.Fines.{size-fine}
-use Rattle.trailing.proofs.Fits.{typedef-fits, payload-fits}
+use Rattle.trailing.proofs.Fits.{picked_fits, typedef-fits, payload-fits}
 use Rattle.array_fields.proofs.Fits.{array-fits}
 use Rattle.fields.specs.Parsed.{parsed_at}
-use Rattle.fields.specs.Values.{optional_type, optional_at, other_of, other_at, unchecked_at}
-use Rattle.fields.specs.declared.Other.{Other}
+use Rattle.fields.specs.Values.{optional_type, optional_at, other_of, other_at}
 use Rattle.fields.proofs.Agree.{unchecked-agree}
 
 -- ---- what is no array fits
 
 optional-fits : (s : Text) (rows : List Row) (cond : Part) (value : ℕ) (d : FieldDesc) → EmitFits (optional_at s rows cond value d)
-unfolding optional_at
 optional-fits s rows cond value (FieldDesc.Checksum of) = tt
 optional-fits s rows cond value (FieldDesc.Padding size) = tt
 optional-fits s rows cond value (FieldDesc.Size of width) = tt
@@ -49,16 +47,15 @@ optional-fits s rows cond value (FieldDesc.Scalar id width) = omega arith
 optional-fits s rows cond value (FieldDesc.Flag id) = tt
 optional-fits s rows cond value (FieldDesc.Typedef id type) = by (enum_of s rows type)
   where
-    by : (e : EnumOf) → EmitFits (optional_type cond value id type e)
-    by (EnumOf.Enum width true is_complete) = omega arith
-    by (EnumOf.Enum width false is_complete) = omega arith
-    by EnumOf.None = omega arith
+    by : (e : Option EnumKind) → EmitFits (optional_type cond value id type e)
+    by (Some kind) = picked_fits kind.is_open _ _ (omega arith) (omega arith)
+    by None = omega arith
 
 -- ---- an array that is not over the limit fits too
 
 module _ (s : Text) (rows : List Row) (fs : List Field) (o : Options) (a : Annotated) (later : List Annotated) where
   other_fits : (d : FieldDesc) → large_size (desc_size s rows fs d) ≡ false → EmitFits (other_at s rows fs o.trailing a later (other_of o.endianness d))
-  unfolding other_at other_of desc_size
+  unfolding desc_size
   other_fits (FieldDesc.Checksum of) h = tt
   other_fits (FieldDesc.Padding bytes) h = tt
   other_fits (FieldDesc.Size of width) h = tt
@@ -98,24 +95,8 @@ module _ (s rows values fields : List ℕ) (i n k : ℕ) (o : Options) where
   abbrev other : FieldDesc → EmitAt
   other d = other_at s scope fs o.trailing here later (other_of o.endianness d)
 
-  abbrev value_by : Field → Cond → EmitAt
-  value_by f cond = elim cond [ Cond.None ↦ other f.desc | Cond.Some id value ↦ optional_at s scope id value f.desc ]
-
-  -- ---- by the field's condition
-
-  module _ {f : Field} (ef : f ≡ field_here values (get_or fields (i * 64 + k) 0)) {cond : Cond} (e : f.cond ≡ cond) where
-    chosen : value_by f cond ≡ answer
-    unfolding unchecked_at
-    chosen = ap (value_by f) (sym e) ∙ ap (λ (f : Field). value_by f f.cond) ef
-
-  module _ {f : Field} (ef : f ≡ field_here values (get_or fields (i * 64 + k) 0)) {r : EmitAt} where
-    pub parsed-optional : {id : Part} {value : ℕ} → f.cond ≡ Cond.Some id value
-        → r ≡ optional_at s scope id value f.desc → r ≡ answer
-    parsed-optional e h = h ∙ chosen ef e
-
-    pub parsed-other : f.cond ≡ Cond.None → {x : Other} → x ≡ other_of o.endianness f.desc
-        → r ≡ other_at s scope fs o.trailing here later x → r ≡ answer
-    parsed-other e ex h = h ∙ ap (other_at s scope fs o.trailing here later) ex ∙ chosen ef e
+  abbrev value_by : Field → Option Condition → EmitAt
+  value_by f cond = elim cond [ None ↦ other f.desc | Some given ↦ optional_at s scope given.id given.value f.desc ]
 
   -- ---- what it stands for: the definitions' `parse_unchecked`
 
@@ -126,15 +107,14 @@ module _ (s rows values fields : List ℕ) (i n k : ℕ) (o : Options) where
   -- ---- its numbers fit
 
   module _ (fine : Fine tables i n) (w : k < n) where
-    fits_by : (cond : Cond) → here.field.cond ≡ cond → EmitFits (value_by here.field cond)
-    fits_by Cond.None e = other_fits s scope fs o here later here.field.desc plain
+    fits_by : (cond : Option Condition) → here.field.cond ≡ cond → EmitFits (value_by here.field cond)
+    fits_by None e = other_fits s scope fs o here later here.field.desc plain
       where
         plain : large_size (desc_size s scope fs here.field.desc) ≡ false
         plain =
-            sym (ap (λ (c : Cond). large_size (elim c [ Cond.None ↦ desc_size s scope fs here.field.desc | Cond.Some id value ↦ Size.Dynamic ])) e)
+            sym (ap (λ (c : Option Condition). large_size (elim c [ None ↦ desc_size s scope fs here.field.desc | Some cond ↦ Size.Dynamic ])) e)
             ∙ size-fine s rows values fields i n fine k w
-    fits_by (Cond.Some id value) e = optional-fits s scope id value here.field.desc
+    fits_by (Some cond) e = optional-fits s scope cond.id cond.value here.field.desc
 
     pub answer-fits : EmitFits answer
-    unfolding unchecked_at
     answer-fits = fits_by here.field.cond refl

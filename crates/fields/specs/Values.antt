@@ -1,12 +1,11 @@
 -- `parse_other`, `parse_optional_field` and `parse_unchecked` of the definitions on an octet boundary, with their names as parts of the record:
 -- `others-agree`, `optionals-agree` and `unchecked-agree` (proofs/Agree) say that they come to the same.
 -- Assumes nothing.
-use Rattle.std.specs.Prelude.{List, ℕ}
+use Rattle.std.specs.Prelude.{List, ℕ, Option, Some, None}
 use Rattle.definitions.specs.Bytes.{Text, pick}
 use Rattle.definitions.specs.Sizes.{Row, Annotated, enum_of, has_payload_size}
 use Rattle.definitions.specs.FieldParser.{get_trailing_size}
-use Rattle.definitions.specs.declared.EnumOf.{EnumOf}
-use Rattle.definitions.specs.declared.Cond.{Cond}
+use Rattle.definitions.specs.declared.EnumKind.{EnumKind}
 use Rattle.definitions.specs.declared.EndiannessValue.{EndiannessValue}
 use Rattle.definitions.specs.declared.Field.{Field}
 use Rattle.definitions.specs.declared.FieldDesc.{FieldDesc}
@@ -23,16 +22,16 @@ use Rattle.fields.specs.declared.Other.{Other}
 
 -- ---- an optional field
 
-abbrev pub optional_type : Part → ℕ → Part → Part → EnumOf → EmitAt
-optional_type cond value id type (EnumOf.Enum width is_open is_complete) =
-    EmitAt.Appends (pick is_open (BlockAt.OptionalOpen cond value width id type) (BlockAt.OptionalClosed cond value width id type))
-optional_type cond value id type EnumOf.None = EmitAt.Appends (BlockAt.OptionalNested cond value id type)
+abbrev pub optional_type : Part → ℕ → Part → Part → Option EnumKind → EmitAt
+optional_type cond value id type (Some kind) =
+    EmitAt.Appends (pick kind.is_open (BlockAt.OptionalOpen cond value kind.width id type) (BlockAt.OptionalClosed cond value kind.width id type))
+optional_type cond value id type None = EmitAt.Appends (BlockAt.OptionalNested cond value id type)
 
 -- 13
 abbrev pub unsupported : EmitAt
 unsupported = EmitAt.Refuses Refusal.UnsupportedOptional
 
-unfoldable pub optional_at : Text → List Row → Part → ℕ → FieldDesc → EmitAt
+abbrev pub optional_at : Text → List Row → Part → ℕ → FieldDesc → EmitAt
 optional_at s rows cond value (FieldDesc.Checksum of) = unsupported
 optional_at s rows cond value (FieldDesc.Padding size) = unsupported
 optional_at s rows cond value (FieldDesc.Size of width) = unsupported
@@ -50,7 +49,7 @@ optional_at s rows cond value (FieldDesc.Typedef id type) = optional_type cond v
 
 -- ---- the arms for a field without a condition
 
-unfoldable pub other_of : EndiannessValue → FieldDesc → Other
+abbrev pub other_of : EndiannessValue → FieldDesc → Other
 other_of order (FieldDesc.Checksum of) = Other.Silent
 other_of order (FieldDesc.Padding size) = Other.Silent
 other_of order (FieldDesc.Size of width) = Other.Silent
@@ -68,7 +67,7 @@ other_of order (FieldDesc.Flag id) = Other.Silent
 other_of order (FieldDesc.Typedef id type) = Other.Typedef (record { id = id; type_id = type })
 
 -- `here` is the field with its sizes, `later` are the fields behind it
-unfoldable pub other_at : Text → List Row → List Field → Trailing → Annotated → List Annotated → Other → EmitAt
+abbrev pub other_at : Text → List Row → List Field → Trailing → Annotated → List Annotated → Other → EmitAt
 other_at s rows fs m here later Other.Silent = EmitAt.Silent
 other_at s rows fs m here later (Other.Payload modifier) = payload_at modifier (has_payload_size s fs) (get_trailing_size m later)
 other_at s rows fs m here later (Other.Array array) = EmitAt.Appends (array_at s rows fs here.padded_size array)
@@ -76,8 +75,8 @@ other_at s rows fs m here later (Other.Typedef typedef) = typedef_at typedef.id 
 
 -- ---- a field that is no bit field, by its condition
 
-unfoldable pub unchecked_at : Text → List Row → List Field → Options → Annotated → List Annotated → EmitAt
+abbrev pub unchecked_at : Text → List Row → List Field → Options → Annotated → List Annotated → EmitAt
 unchecked_at s rows fs o here later = elim here.field.cond [
-  | Cond.None ↦ other_at s rows fs o.trailing here later (other_of o.endianness here.field.desc)
-  | Cond.Some id value ↦ optional_at s rows id value here.field.desc
+  | None ↦ other_at s rows fs o.trailing here later (other_of o.endianness here.field.desc)
+  | Some cond ↦ optional_at s rows cond.id cond.value here.field.desc
 ]

@@ -1,20 +1,18 @@
 -- What fragments (specs/Groups) say. `Says s gs ds` is that the declarations `ds` of
 -- the text `s` say what the fragments `gs` say where each is read alone. `FewerGroups` leaves out fields.
 -- Assumes nothing.
+use Rattle.std.specs.Prelude.{None}
 use mathlib.Core.List.{List, [], ◌∷◌, ◌++◌}
 use mathlib.Core.Path.{◌≡◌, refl}
 use Rattle.definitions.specs.Bytes.{Text}
-use Rattle.definitions.specs.Record.{part_of, on_field, on_head, on_decl, field_at, head_at, decl_at, Declaration}
-use Rattle.definitions.specs.declared.MaybeNumber.{MaybeNumber}
+use Rattle.definitions.specs.Record.{part_of, on_read, field_at, head_at, decl_at, Declaration}
 use Rattle.definitions.specs.declared.EndiannessValue.{EndiannessValue}
 use Rattle.definitions.specs.declared.Arrays.{Arrays}
 use Rattle.definitions.specs.declared.Trailing.{Trailing}
 use Rattle.definitions.specs.declared.Raw.{Raw}
 use Rattle.definitions.specs.declared.Products.{Products}
 use Rattle.definitions.specs.declared.Head.{Head}
-use Rattle.definitions.specs.declared.MaybeSize.{MaybeSize}
 use Rattle.definitions.specs.declared.FieldDesc.{FieldDesc}
-use Rattle.definitions.specs.declared.Cond.{Cond}
 use Rattle.definitions.specs.declared.Field.{Field}
 use Rattle.definitions.specs.declared.DeclDesc.{DeclDesc}
 use Rattle.definitions.specs.declared.Decl.{Decl}
@@ -26,7 +24,7 @@ use Rattle.fragments.specs.Groups.{Group}
 
 unfoldable pub head_in : Text → Head
 head_in u =
-    on_head (head_at u 0)
+    on_read (head_at u 0)
     (record {
       options = record {
         endianness = EndiannessValue.LittleEndian;
@@ -40,11 +38,11 @@ head_in u =
     λ h p. h
 
 unfoldable pub field_in : Text → Field
-field_in f = on_field (field_at f 0) (record { key = 0; desc = FieldDesc.Body; cond = Cond.None }) λ x p. x
+field_in f = on_read (field_at f 0) (record { key = 0; desc = FieldDesc.Body; cond = None }) λ x p. x
 
 unfoldable pub decl_in : Text → Decl
 decl_in g =
-    on_decl (decl_at g 0) (record { key = 0; id = part_of 0 0; bits = MaybeSize.None; desc = DeclDesc.CustomField MaybeNumber.None }) λ d p. d
+    on_read (decl_at g 0) (record { key = 0; id = part_of 0 0; bits = None; desc = DeclDesc.CustomField None }) λ d p. d
 
 -- ---- declarations of a text that say the same
 

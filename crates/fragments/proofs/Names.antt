@@ -1,12 +1,13 @@
 -- The names that a field or a declaration has, as texts. Where they are the same in two texts, what says the same as the one says the same as the other; and
 -- what says the same as one thing says the same as each other.
 -- Assumes nothing.
+use Rattle.std.specs.Prelude.{Option, Some, None}
+use Rattle.definitions.specs.declared.Part.{Part}
 use mathlib.Core.List.{List, [], ◌∷◌}
 use mathlib.Core.Path.{◌≡◌, sym, ap, ◌∙◌}
 use Rattle.definitions.specs.Bytes.{Text, part}
-use Rattle.definitions.specs.declared.MaybePart.{MaybePart}
 use Rattle.definitions.specs.declared.FieldDesc.{FieldDesc}
-use Rattle.definitions.specs.declared.Cond.{Cond}
+use Rattle.definitions.specs.declared.Condition.{Condition}
 use Rattle.definitions.specs.declared.Field.{Field}
 use Rattle.definitions.specs.declared.DeclDesc.{DeclDesc}
 use Rattle.definitions.specs.declared.Decl.{Decl}
@@ -15,9 +16,9 @@ use Rattle.fragments.proofs.Lists.{first, rest}
 
 -- ---- the names
 
-abbrev pub maybe_names : Text → MaybePart → List Text
-maybe_names s MaybePart.None = []
-maybe_names s (MaybePart.Some a) = part s a ∷ []
+abbrev pub maybe_names : Text → Option Part → List Text
+maybe_names s None = []
+maybe_names s (Some a) = part s a ∷ []
 
 abbrev pub desc_names : Text → FieldDesc → List Text
 desc_names s (FieldDesc.Checksum a) = part s a ∷ []
@@ -35,9 +36,9 @@ desc_names s (FieldDesc.Scalar a width) = part s a ∷ []
 desc_names s (FieldDesc.Flag a) = part s a ∷ []
 desc_names s (FieldDesc.Typedef a c) = part s a ∷ part s c ∷ []
 
-abbrev pub cond_names : Text → Cond → List Text
-cond_names s Cond.None = []
-cond_names s (Cond.Some a value) = part s a ∷ []
+abbrev pub cond_names : Text → Option Condition → List Text
+cond_names s None = []
+cond_names s (Some cond) = part s cond.id ∷ []
 
 abbrev pub decl_names : Text → DeclDesc → List Text
 decl_names s (DeclDesc.Checksum width) = []
@@ -57,7 +58,7 @@ own_names s d = (part s d.id, decl_names s d.desc)
 -- ---- the same names in two texts s and u
 
 module _ (s u t : Text) where
-  maybe-from : {a b : MaybePart} → maybe_names s a ≡ maybe_names u a → SameMaybe s t a b → SameMaybe u t a b
+  maybe-from : {a b : Option Part} → maybe_names s a ≡ maybe_names u a → SameMaybe s t a b → SameMaybe u t a b
   maybe-from e SameMaybe.none = SameMaybe.none
   maybe-from e (SameMaybe.some h) = SameMaybe.some (sym (first e) ∙ h)
 
@@ -77,7 +78,7 @@ module _ (s u t : Text) where
   desc-from e (SameDesc.flag h) = SameDesc.flag (sym (first e) ∙ h)
   desc-from e (SameDesc.typedef h k) = SameDesc.typedef (sym (first e) ∙ h) (sym (first (rest e)) ∙ k)
 
-  cond-from : {c d : Cond} → cond_names s c ≡ cond_names u c → SameCond s t c d → SameCond u t c d
+  cond-from : {c d : Option Condition} → cond_names s c ≡ cond_names u c → SameCond s t c d → SameCond u t c d
   cond-from e SameCond.none = SameCond.none
   cond-from e (SameCond.some h) = SameCond.some (sym (first e) ∙ h)
 
@@ -105,7 +106,7 @@ module _ (s u t : Text) where
 -- ---- two things that say the same as a third
 
 module _ (u s t : Text) where
-  maybe-both : {a b c : MaybePart} → SameMaybe u s a b → SameMaybe u t a c → SameMaybe s t b c
+  maybe-both : {a b c : Option Part} → SameMaybe u s a b → SameMaybe u t a c → SameMaybe s t b c
   maybe-both SameMaybe.none SameMaybe.none = SameMaybe.none
   maybe-both (SameMaybe.some h) (SameMaybe.some k) = SameMaybe.some (sym h ∙ k)
 
@@ -125,7 +126,7 @@ module _ (u s t : Text) where
   desc-both (SameDesc.flag h) (SameDesc.flag k) = SameDesc.flag (sym h ∙ k)
   desc-both (SameDesc.typedef h i) (SameDesc.typedef k j) = SameDesc.typedef (sym h ∙ k) (sym i ∙ j)
 
-  cond_both : {a b c : Cond} → SameCond u s a b → SameCond u t a c → SameCond s t b c
+  cond_both : {a b c : Option Condition} → SameCond u s a b → SameCond u t a c → SameCond s t b c
   cond_both SameCond.none SameCond.none = SameCond.none
   cond_both (SameCond.some h) (SameCond.some k) = SameCond.some (sym h ∙ k)
 

@@ -1,6 +1,7 @@
 -- Declarations that say what fragments say, with no reading of the whole: each fragment is read alone, and its names are moved to where the fragment stands
 -- in the joined text (`says-placed`).
 -- Assumes nothing.
+use Rattle.std.specs.Prelude.{Option, Some, None}
 use mathlib.Core.List.{List, [], ◌∷◌, ◌++◌, append_assoc}
 use mathlib.Core.Path.{◌≡◌, refl, sym, ap, ◌∙◌}
 use Prim.Native.Nat.{ℕ, ◌+◌, ◌-◌}
@@ -10,9 +11,8 @@ use lib.Seq.{drop-append_seam, drop-drop}
 use Rattle.definitions.specs.Bytes.{Text, part}
 use Rattle.definitions.specs.Record.{part_of, Declaration}
 use Rattle.definitions.specs.declared.Part.{Part}
-use Rattle.definitions.specs.declared.MaybePart.{MaybePart}
 use Rattle.definitions.specs.declared.FieldDesc.{FieldDesc}
-use Rattle.definitions.specs.declared.Cond.{Cond}
+use Rattle.definitions.specs.declared.Condition.{Condition}
 use Rattle.definitions.specs.declared.Field.{Field}
 use Rattle.definitions.specs.declared.DeclDesc.{DeclDesc}
 use Rattle.definitions.specs.declared.Decl.{Decl}
@@ -28,9 +28,9 @@ use Rattle.fragments.proofs.Tests.{FieldReads, Readable}
 abbrev moved_part : ℕ → Part → Part
 moved_part n p = part_of (n + p.start) (n + p.end)
 
-abbrev moved_maybe : ℕ → MaybePart → MaybePart
-moved_maybe n MaybePart.None = MaybePart.None
-moved_maybe n (MaybePart.Some p) = MaybePart.Some (moved_part n p)
+abbrev moved_maybe : ℕ → Option Part → Option Part
+moved_maybe n None = None
+moved_maybe n (Some p) = Some (moved_part n p)
 
 abbrev moved_desc : ℕ → FieldDesc → FieldDesc
 moved_desc n (FieldDesc.Checksum a) = FieldDesc.Checksum (moved_part n a)
@@ -48,9 +48,9 @@ moved_desc n (FieldDesc.Scalar a width) = FieldDesc.Scalar (moved_part n a) widt
 moved_desc n (FieldDesc.Flag a) = FieldDesc.Flag (moved_part n a)
 moved_desc n (FieldDesc.Typedef a c) = FieldDesc.Typedef (moved_part n a) (moved_part n c)
 
-abbrev moved_cond : ℕ → Cond → Cond
-moved_cond n Cond.None = Cond.None
-moved_cond n (Cond.Some a value) = Cond.Some (moved_part n a) value
+abbrev moved_cond : ℕ → Option Condition → Option Condition
+moved_cond n None = None
+moved_cond n (Some cond) = Some (record { id = moved_part n cond.id; value = cond.value })
 
 abbrev moved_decl_desc : ℕ → DeclDesc → DeclDesc
 moved_decl_desc n (DeclDesc.Checksum width) = DeclDesc.Checksum width
@@ -86,9 +86,9 @@ module _ (t u : Text) (n : ℕ) (there : drop n t ≡ u) where
       ∙ ap (take (p.end - p.start)) (drop-drop p.start n t)
       ∙ ap (λ (k : ℕ). take k (drop (n + p.start) t)) (let e : p.end - p.start ≡ n + p.end - (n + p.start) = omega arith in e)
 
-  maybe-moved : (a : MaybePart) → SameMaybe u t a (moved_maybe n a)
-  maybe-moved MaybePart.None = SameMaybe.none
-  maybe-moved (MaybePart.Some a) = SameMaybe.some (part_moved a)
+  maybe-moved : (a : Option Part) → SameMaybe u t a (moved_maybe n a)
+  maybe-moved None = SameMaybe.none
+  maybe-moved (Some a) = SameMaybe.some (part_moved a)
 
   desc-moved : (d : FieldDesc) → SameDesc u t d (moved_desc n d)
   desc-moved (FieldDesc.Checksum a) = SameDesc.checksum (part_moved a)
@@ -106,9 +106,9 @@ module _ (t u : Text) (n : ℕ) (there : drop n t ≡ u) where
   desc-moved (FieldDesc.Flag a) = SameDesc.flag (part_moved a)
   desc-moved (FieldDesc.Typedef a c) = SameDesc.typedef (part_moved a) (part_moved c)
 
-  cond-moved : (c : Cond) → SameCond u t c (moved_cond n c)
-  cond-moved Cond.None = SameCond.none
-  cond-moved (Cond.Some a value) = SameCond.some (part_moved a)
+  cond-moved : (c : Option Condition) → SameCond u t c (moved_cond n c)
+  cond-moved None = SameCond.none
+  cond-moved (Some cond) = SameCond.some (part_moved cond.id)
 
   decl-desc-moved : (d : DeclDesc) → SameDeclDesc u t d (moved_decl_desc n d)
   decl-desc-moved (DeclDesc.Checksum width) = SameDeclDesc.checksum

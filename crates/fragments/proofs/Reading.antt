@@ -1,5 +1,7 @@
 -- A record that is a head and readable fragments is read, and what is read is what the fragments say (`read-joined`).
 -- Assumes nothing.
+use Rattle.std.specs.Prelude.{Option, Some, None}
+use Rattle.definitions.specs.Record.{Read, key_of, key_at, on_found, on_read, on_fields, head_at, decl_at, field_at, Declaration, Fields, fields_are, no_fields, Declarations, declarations_are, no_declarations, record_is, no_record, with_field, fields_at, fields_behind, with_declaration, declarations_at, with_head, read_record}
 use mathlib.Core.Bool.{Bool, true, false}
 use mathlib.Core.List.{List, [], ◌∷◌, ◌++◌, append_assoc}
 use mathlib.Core.Path.{◌≡◌, refl, sym, ap, ◌∙◌, subst}
@@ -10,15 +12,10 @@ use lib.ListN.{length, take, drop, length-drop, take-append-drop}
 use lib.Seq.{drop-append_seam}
 use borrow.Author.Tests.{lt-ltb, le-ltb}
 use Rattle.definitions.specs.Bytes.{Text, text, pick}
-use Rattle.definitions.specs.Record.{key_of, key_at, on_found, on_field, on_head, on_decl, on_fields, head_at, decl_at, field_at, Declaration, Fields, fields_are, no_fields, Declarations, declarations_are, no_declarations, record_is, no_record, with_field, fields_at, fields_behind, with_declaration, declarations_at, with_head, read_record}
 use Rattle.definitions.specs.declared.Head.{Head}
 use Rattle.definitions.specs.declared.Field.{Field}
 use Rattle.definitions.specs.declared.DeclDesc.{DeclDesc}
 use Rattle.definitions.specs.declared.Decl.{Decl}
-use Rattle.definitions.specs.declared.Found.{Found}
-use Rattle.definitions.specs.declared.HeadRead.{HeadRead}
-use Rattle.definitions.specs.declared.FieldRead.{FieldRead}
-use Rattle.definitions.specs.declared.DeclRead.{DeclRead}
 use Rattle.lengths.proofs.Booleans.{impossible}
 use Rattle.alike.proofs.Same.{SameField, SameDeclDesc, SameDecl}
 use Rattle.alike.proofs.Rests.{LeftOut, Place, start, inside, away, behind, Rests, itself}
@@ -72,7 +69,7 @@ fields-begin r All.done b = other b
 fields-begin r (All.more {x = f} {xs = fs} k ks) b =
     subst Ahead (sym (append_assoc f (joined_fields fs) r ∙ begun 6 (text "field=") f (joined_fields fs ++ r) k.begins)) (field _)
 
-header_read : {g r : Text} → HeaderReads g → Ahead r → decl_at (g ++ r) 0 ≡ DeclRead.Is (decl_in g) (length g)
+header_read : {g r : Text} → HeaderReads g → Ahead r → decl_at (g ++ r) 0 ≡ Some (decl_in g, length g)
 header_read k (field r) = k.before-field r
 header_read k (other (decl r)) = k.before-decl r
 header_read k (other end) = k.last
@@ -84,7 +81,7 @@ module _ (s : Text) where
   record FieldThere (f r : Text) (p : ℕ) : Type 0 where
     field : Field
     next : ℕ
-    read : field_at s p ≡ FieldRead.Is field next
+    read : field_at s p ≡ Some (field, next)
     says : SameField f s (field_in f) field
     rests : drop next s ≡ r
     less : length (drop next s) < length (drop p s)
@@ -92,13 +89,13 @@ module _ (s : Text) where
   field-there : {f : Text} (r : Text) (p : ℕ) → FieldReads f → drop p s ≡ f ++ r → FieldThere f r p
   field-there {f} r p k e =
       by (field_at s p) refl
-      (subst (λ (a : FieldRead). FieldAs LeftOut.none (f ++ r) s (length (drop p s)) a (field_at s p)) (k.read r)
+      (subst (λ (a : Read Field). FieldAs LeftOut.none (f ++ r) s (length (drop p s)) a (field_at s p)) (k.read r)
       (field-as LeftOut.none (f ++ r) s (length (drop p s)) 0 p (rw e (itself (f ++ r))) (omega arith)))
     where
-      by : (a : FieldRead) → field_at s p ≡ a → FieldAs LeftOut.none (f ++ r) s (length (drop p s)) (FieldRead.Is (field_in f) (length f)) a
+      by : (a : Read Field) → field_at s p ≡ a → FieldAs LeftOut.none (f ++ r) s (length (drop p s)) (Some (field_in f, length f)) a
           → FieldThere f r p
-      by FieldRead.Wrong g u = absurd u
-      by (FieldRead.Is y q) g u =
+      by None g u = absurd u
+      by (Some (y, q)) g u =
           record {
             field = y;
             next = q;
@@ -112,7 +109,7 @@ module _ (s : Text) where
   record HeaderThere (g r : Text) (p : ℕ) : Type 0 where
     decl : Decl
     next : ℕ
-    read : decl_at s p ≡ DeclRead.Is decl next
+    read : decl_at s p ≡ Some (decl, next)
     says : SameDecl g s (decl_in g) decl
     bits : decl.bits ≡ (decl_in g).bits
     rests : drop next s ≡ r
@@ -121,13 +118,13 @@ module _ (s : Text) where
   header-there : {g r : Text} (p : ℕ) → HeaderReads g → Ahead r → drop p s ≡ g ++ r → HeaderThere g r p
   header-there {g} {r} p k a e =
       by (decl_at s p) refl
-      (subst (λ (x : DeclRead). DeclAs LeftOut.none (g ++ r) s (length (drop p s)) x (decl_at s p)) (header_read k a)
+      (subst (λ (x : Read Decl). DeclAs LeftOut.none (g ++ r) s (length (drop p s)) x (decl_at s p)) (header_read k a)
       (decl-as LeftOut.none (g ++ r) s (length (drop p s)) 0 p (rw e (itself (g ++ r))) (omega arith)))
     where
-      by : (x : DeclRead) → decl_at s p ≡ x → DeclAs LeftOut.none (g ++ r) s (length (drop p s)) (DeclRead.Is (decl_in g) (length g)) x
+      by : (x : Read Decl) → decl_at s p ≡ x → DeclAs LeftOut.none (g ++ r) s (length (drop p s)) (Some (decl_in g, length g)) x
           → HeaderThere g r p
-      by DeclRead.Wrong h u = absurd (u refl)
-      by (DeclRead.Is d q) h u =
+      by None h u = absurd (u refl)
+      by (Some (d, q)) h u =
           let v = u refl in
           record {
             decl = d;
@@ -148,12 +145,12 @@ module _ (s : Text) where
     rests : drop next s ≡ r
     less : length (drop next s) ≤ length (drop p s)
 
-  no_field : (p : ℕ) {r : Text} → Behind r → drop p s ≡ r → key_at s p (text "field=") ≡ Found.Nothing
+  no_field : (p : ℕ) {r : Text} → Behind r → drop p s ≡ r → key_at s p (text "field=") ≡ None
   unfolding key_of
   no_field p (decl r) e = ap (λ (w : Text). key_of (text "field=") w p) e
   no_field p end e = ap (λ (w : Text). key_of (text "field=") w p) e
 
-  a-field : (p : ℕ) (r : Text) → drop p s ≡ text "field=" ++ r → (i : ℕ) × (key_at s p (text "field=") ≡ Found.At i)
+  a-field : (p : ℕ) (r : Text) → drop p s ≡ text "field=" ++ r → (i : ℕ) × (key_at s p (text "field=") ≡ Some i)
   unfolding key_of
   a-field p r e = (_, ap (λ (w : Text). key_of (text "field=") w p) e)
 
@@ -166,9 +163,9 @@ module _ (s : Text) where
         record {
           fields = y.field ∷ w.fields;
           next = w.next;
-          read = ap (λ (a : Found). on_found a (fields_are [] p) λ i. on_field (field_at s p) no_fields λ x q. with_field x (fields_at s f q))
+          read = ap (λ (a : Option ℕ). on_found a (fields_are [] p) λ i. on_read (field_at s p) no_fields λ x q. with_field x (fields_at s f q))
               (a-field p _ (e ∙ begun 6 (text "field=") g (joined_fields fs ++ r) k.begins)).1
-              ∙ ap (λ (a : FieldRead). on_field a no_fields λ x q. with_field x (fields_at s f q)) y.read ∙ ap (with_field y.field) w.read;
+              ∙ ap (λ (a : Read Field). on_read a no_fields λ x q. with_field x (fields_at s f q)) y.read ∙ ap (with_field y.field) w.read;
           says = SaysFields.more y.says w.says;
           rests = w.rests;
           less = omega (arith, w.less, y.less);
@@ -182,7 +179,7 @@ module _ (s : Text) where
       record {
         fields = [];
         next = p;
-        read = ap (λ (a : Found). on_found a (fields_are [] p) λ i. on_field (field_at s p) no_fields λ x q. with_field x (fields_at s f q)) (no_field p b e);
+        read = ap (λ (a : Option ℕ). on_found a (fields_are [] p) λ i. on_read (field_at s p) no_fields λ x q. with_field x (fields_at s f q)) (no_field p b e);
         says = SaysFields.done;
         rests = e;
         less = omega arith;
@@ -237,7 +234,7 @@ module _ (s : Text) where
     group-then w =
         record {
           declarations = record { decl = x.decl; fields = y.fields } ∷ w.declarations;
-          read = ap (λ (a : DeclRead). on_decl a no_declarations λ d i.
+          read = ap (λ (a : Read Decl). on_read a no_declarations λ d i.
               on_fields (fields_behind s d.desc i) no_declarations λ xs q. with_declaration (record { decl = d; fields = xs }) (onwards f q)) x.read
               ∙ ap (λ (a : Fields). on_fields a no_declarations λ xs q. with_declaration (record { decl = x.decl; fields = xs }) (onwards f q)) y.read
               ∙ ap (with_declaration (record { decl = x.decl; fields = y.fields })) w.read;
@@ -278,7 +275,7 @@ read-joined head h gs n k ks = (w.declarations, is, w.says)
     behind-head : drop (length head) s ≡ joined gs
     behind-head = drop-append_seam head (joined gs)
 
-    head-is : head_at s 0 ≡ HeadRead.Is h (length head)
+    head-is : head_at s 0 ≡ Some (h, length head)
     head-is = let v = starts ks n in ap (λ (r : Text). head_at (head ++ r) 0) v.1 ∙ k.read v.0
 
     some : 0 < length (drop (length head) s)
@@ -290,4 +287,4 @@ read-joined head h gs n k ks = (w.declarations, is, w.says)
         (groups-there s ks (length s) (length head) behind-head (omega (arith, length-drop (length head) s)))
 
     is : read_record s ≡ record_is h w.declarations
-    is = ap (λ (a : HeadRead). on_head a no_record λ h p. with_head h (declarations_at s (length s) p)) head-is ∙ ap (with_head h) w.read
+    is = ap (λ (a : Read Head). on_read a no_record λ h p. with_head h (declarations_at s (length s) p)) head-is ∙ ap (with_head h) w.read

@@ -1,17 +1,17 @@
 -- When fragments are read alike whatever follows them: `Readable gs`, of each text by itself. `Tests gs` are equations of lists, each of which `refl` proves
 -- for closed texts (Cases), and `readable` is that they are enough.
 -- Assumes nothing.
+use Rattle.std.specs.Prelude.{Some}
+use Rattle.definitions.specs.Record.{Read, head_at, decl_at, field_at}
+use Rattle.definitions.specs.declared.Field.{Field}
+use Rattle.definitions.specs.declared.Decl.{Decl}
 use mathlib.Core.Bool.{Bool, true, false}
 use mathlib.Core.List.{List, [], ◌∷◌, ◌++◌, map}
 use mathlib.Core.Path.{◌≡◌, refl, sym, ap, subst}
 use lib.ListN.{length, take}
 use Rattle.definitions.specs.Bytes.{Text, text, pick, part}
-use Rattle.definitions.specs.Record.{head_at, decl_at, field_at}
 use Rattle.definitions.specs.declared.Head.{Head}
 use Rattle.definitions.specs.declared.DeclDesc.{DeclDesc}
-use Rattle.definitions.specs.declared.HeadRead.{HeadRead}
-use Rattle.definitions.specs.declared.FieldRead.{FieldRead}
-use Rattle.definitions.specs.declared.DeclRead.{DeclRead}
 use Rattle.fewer.proofs.Fewer.{Sublist}
 use Rattle.fragments.proofs.Lists.{is_nil, first, rest, All, done, more, all_apart, all-fewer}
 use Rattle.fragments.specs.Groups.{Group}
@@ -22,20 +22,20 @@ use Rattle.fragments.proofs.Names.{field_names, own_names}
 
 -- a head, before a declaration
 pub record HeadReads (head : Text) (h : Head) : Type 0 where
-  pub read : (r : Text) → head_at (head ++ (text "decl=" ++ r)) 0 ≡ HeadRead.Is h (length head)
+  pub read : (r : Text) → head_at (head ++ (text "decl=" ++ r)) 0 ≡ Some (h, length head)
   pub target : (r : Text) → part (head ++ r) h.target ≡ part head h.target
 
 pub record FieldReads (f : Text) : Type 0 where
   pub begins : take 6 f ≡ text "field="
-  pub read : (r : Text) → field_at (f ++ r) 0 ≡ FieldRead.Is (field_in f) (length f)
+  pub read : (r : Text) → field_at (f ++ r) 0 ≡ Some (field_in f, length f)
   pub names : (r : Text) → field_names (f ++ r) (field_in f) ≡ field_names f (field_in f)
 
 -- the lines of a declaration, before a field, before the next declaration, or at the record's end
 pub record HeaderReads (g : Text) : Type 0 where
   pub begins : take 5 g ≡ text "decl="
-  pub before-field : (r : Text) → decl_at (g ++ (text "field=" ++ r)) 0 ≡ DeclRead.Is (decl_in g) (length g)
-  pub before-decl : (r : Text) → decl_at (g ++ (text "decl=" ++ r)) 0 ≡ DeclRead.Is (decl_in g) (length g)
-  pub last : decl_at (g ++ []) 0 ≡ DeclRead.Is (decl_in g) (length g)
+  pub before-field : (r : Text) → decl_at (g ++ (text "field=" ++ r)) 0 ≡ Some (decl_in g, length g)
+  pub before-decl : (r : Text) → decl_at (g ++ (text "decl=" ++ r)) 0 ≡ Some (decl_in g, length g)
+  pub last : decl_at (g ++ []) 0 ≡ Some (decl_in g, length g)
   pub names : (r : Text) → own_names (g ++ r) (decl_in g) ≡ own_names g (decl_in g)
 
 -- ---- a declaration: its lines, its fields, and fields only where it may have them
@@ -80,31 +80,31 @@ fewer-readable (FewerGroups.more {g = g} {h = h} e l w) (more k ks) =
 
 -- ---- the tests of many texts, each an equation of lists: what is seen of a text before any other one, and what is said
 
-abbrev pub head_seen : Text → Text → HeadRead × Text
+abbrev pub head_seen : Text → Text → Read Head × Text
 head_seen u r = (head_at (u ++ (text "decl=" ++ r)) 0, part (u ++ r) (head_in u).target)
 
-abbrev pub head_said : Text → Text → HeadRead × Text
-head_said u r = (HeadRead.Is (head_in u) (length u), part u (head_in u).target)
+abbrev pub head_said : Text → Text → Read Head × Text
+head_said u r = (Some (head_in u, length u), part u (head_in u).target)
 
 -- its key, what is read before a field, before a declaration and at the end, and its names
 abbrev pub HeaderSight : Type 0
-HeaderSight = Text × DeclRead × DeclRead × DeclRead × (Text × List Text)
+HeaderSight = Text × Read Decl × Read Decl × Read Decl × (Text × List Text)
 
 abbrev pub header_seen : Text → Text → HeaderSight
 header_seen g r =
     (take 5 g, decl_at (g ++ (text "field=" ++ r)) 0, decl_at (g ++ (text "decl=" ++ r)) 0, decl_at (g ++ []) 0, own_names (g ++ r) (decl_in g))
 
 abbrev pub header_said : Text → Text → HeaderSight
-header_said g r = let is = DeclRead.Is (decl_in g) (length g) in (text "decl=", is, is, is, own_names g (decl_in g))
+header_said g r = let is = Some (decl_in g, length g) in (text "decl=", is, is, is, own_names g (decl_in g))
 
 abbrev pub FieldSight : Type 0
-FieldSight = Text × FieldRead × (List Text × List Text)
+FieldSight = Text × Read Field × (List Text × List Text)
 
 abbrev pub field_seen : Text → Text → FieldSight
 field_seen f r = (take 6 f, field_at (f ++ r) 0, field_names (f ++ r) (field_in f))
 
 abbrev pub field_said : Text → Text → FieldSight
-field_said f r = (text "field=", FieldRead.Is (field_in f) (length f), field_names f (field_in f))
+field_said f r = (text "field=", Some (field_in f, length f), field_names f (field_in f))
 
 -- a declaration has fields only where it may have them
 abbrev pub group_fits : Group → Bool
@@ -129,8 +129,8 @@ pub heads-read : (us : List Text) → map head_seen us ≡ map head_said us → 
 heads-read [] e = done
 heads-read (u ∷ us) e =
     more (record {
-      read = λ r. ap (λ (f : Text → HeadRead × Text). (f r).0) (first e);
-      target = λ r. ap (λ (f : Text → HeadRead × Text). (f r).1) (first e);
+      read = λ r. ap (λ (f : Text → Read Head × Text). (f r).0) (first e);
+      target = λ r. ap (λ (f : Text → Read Head × Text). (f r).1) (first e);
     })
     (heads-read us (rest e))
 

@@ -1,4 +1,3 @@
 -- What each holds is said in its first lines.
 pub mod Printed
 pub mod Records
-pub mod Asking

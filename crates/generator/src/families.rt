@@ -1,12 +1,10 @@
 // The families of the load as texts (document 02, Card 1), as docs/LOAD.md lists them: a line for each possibility, which begins with `;` where it is the
 // first of a slot, else with `|`.
 
-ghost use Rattle.grammar.specs.Choices.{draw_slots};
+ghost use Rattle.std.specs.Prelude.{◌≡◌, [], map, ◌<◌, get_or};
 ghost use Rattle.grammar.specs.Fragments.{slots_of};
-ghost use Rattle.grammar.specs.Families.{beacon, lamp, status, log, relay, meter, station, harbour};
-ghost use Rattle.slots.specs.Draws.{Draws};
-
-use slots::Drawn;
+ghost use Rattle.grammar.specs.Families.{families};
+ghost use Rattle.slots.specs.Pieces.{slots};
 
 // One packet with a few fields.
 const BEACON: [u8; 804] = *b"endian=little\n\
@@ -34,12 +32,6 @@ const BEACON: [u8; 804] = *b"endian=little\n\
     |field=scalar\nid=serial\nwidth=64\nif=-\n\
     |field=body\nif=-\n\
     |field=scalar\nid=hours\nwidth=13\nif=-\nfield=reserved\nwidth=3\nif=-\n";
-
-pub fn put_beacon(state: u32, out: &mut [u8]) -> Drawn
-    ensures { Draws (draw_slots (slots_of beacon) state) out.old result.end result.state out.new }
-{
-    slots::put_slots(&BEACON, state, out)
-}
 
 // Enums, bit fields of many widths, optional scalars.
 const LAMP: [u8; 1804] = *b"endian=little\n\
@@ -80,12 +72,6 @@ const LAMP: [u8; 1804] = *b"endian=little\n\
     |field=scalar\nid=crc\nwidth=16\nif=-\n\
     |field=scalar\nid=spare\nwidth=8\nif=-\nfield=scalar\nid=unfinished\nwidth=4\nif=-\n\
     |field=scalar\nid=drift\nwidth=60\nif=-\nfield=scalar\nid=jitter\nwidth=12\nif=-\n";
-
-pub fn put_lamp(state: u32, out: &mut [u8]) -> Drawn
-    ensures { Draws (draw_slots (slots_of lamp) state) out.old result.end result.state out.new }
-{
-    slots::put_slots(&LAMP, state, out)
-}
 
 // A frame and two packets that extend it.
 const STATUS: [u8; 2944] = *b"endian=little\n\
@@ -154,12 +140,6 @@ const STATUS: [u8; 2944] = *b"endian=little\n\
     |field=payload\nmod=-\nif=-\nfield=count\nof=notes\nwidth=8\nif=-\n\
     field=array\nid=notes\nwidth=8\ntype=-\nmod=-\ncount=-\nif=-\n";
 
-pub fn put_status(state: u32, out: &mut [u8]) -> Drawn
-    ensures { Draws (draw_slots (slots_of status) state) out.old result.end result.state out.new }
-{
-    slots::put_slots(&STATUS, state, out)
-}
-
 // Every shape of an array.
 const LOG: [u8; 3772] = *b"endian=little\n\
     |endian=big\n\
@@ -225,12 +205,6 @@ const LOG: [u8; 3772] = *b"endian=little\n\
     |field=payload\nmod=-\nif=-\n\
     |field=array\nid=over\nwidth=-\ntype=Rest\nmod=-\ncount=-\nif=-\n";
 
-pub fn put_log(state: u32, out: &mut [u8]) -> Drawn
-    ensures { Draws (draw_slots (slots_of log) state) out.old result.end result.state out.new }
-{
-    slots::put_slots(&LOG, state, out)
-}
-
 // Fixed values, checksums, paddings, payloads before other fields.
 const RELAY: [u8; 2743] = *b"endian=little\n\
     |endian=big\n\
@@ -283,12 +257,6 @@ const RELAY: [u8; 2743] = *b"endian=little\n\
     ;field=payload\nmod=-\nif=-\n\
     |field=size\nof=_payload_\nwidth=24\nif=-\nfield=payload\nmod=-\nif=-\n\
     |field=body\nif=-\n";
-
-pub fn put_relay(state: u32, out: &mut [u8]) -> Drawn
-    ensures { Draws (draw_slots (slots_of relay) state) out.old result.end result.state out.new }
-{
-    slots::put_slots(&RELAY, state, out)
-}
 
 // Elements whose size is sent, optional fields.
 const METER: [u8; 3584] = *b"endian=little\n\
@@ -356,12 +324,6 @@ const METER: [u8; 3584] = *b"endian=little\n\
     |field=payload\nmod=-\nif=-\n\
     |field=scalar\nid=longest\nwidth=63\nif=-\nfield=scalar\nid=longer\nwidth=9\nif=-\n\
     |field=array\nid=flagged\nwidth=-\ntype=Unit\nmod=-\ncount=2\nif=night\nis=1\n";
-
-pub fn put_meter(state: u32, out: &mut [u8]) -> Drawn
-    ensures { Draws (draw_slots (slots_of meter) state) out.old result.end result.state out.new }
-{
-    slots::put_slots(&METER, state, out)
-}
 
 // A large packet with two smaller ones.
 const STATION: [u8; 7081] = *b"endian=little\n\
@@ -483,12 +445,6 @@ const STATION: [u8; 7081] = *b"endian=little\n\
     |field=scalar\nid=leap\nwidth=40\nif=-\nfield=scalar\nid=skew\nwidth=32\nif=-\n\
     |field=scalar\nid=idle\nwidth=4\nif=-\n";
 
-pub fn put_station(state: u32, out: &mut [u8]) -> Drawn
-    ensures { Draws (draw_slots (slots_of station) state) out.old result.end result.state out.new }
-{
-    slots::put_slots(&STATION, state, out)
-}
-
 // Many small declarations.
 const HARBOUR: [u8; 2973] = *b"endian=little\n\
     |endian=big\n\
@@ -550,8 +506,19 @@ const HARBOUR: [u8; 2973] = *b"endian=little\n\
     |field=payload\nmod=-\nif=-\n\
     |field=scalar\nid=gap\nwidth=2\nif=-\nfield=typedef\nid=tide\ntype=Tide\nif=-\n";
 
-pub fn put_harbour(state: u32, out: &mut [u8]) -> Drawn
-    ensures { Draws (draw_slots (slots_of harbour) state) out.old result.end result.state out.new }
+// The k-th of them. A match, since a constant table of all texts is longer than a constant may be.
+pub fn family(k: usize) -> &'static [u8]
+    requires { k < 8 }
+    ensures { slots result.now ≡ get_or (map slots_of families) k [] }
 {
-    slots::put_slots(&HARBOUR, state, out)
+    match k {
+        0 => &BEACON,
+        1 => &LAMP,
+        2 => &STATUS,
+        3 => &LOG,
+        4 => &RELAY,
+        5 => &METER,
+        6 => &STATION,
+        _ => &HARBOUR,
+    }
 }

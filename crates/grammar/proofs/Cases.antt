@@ -1,6 +1,7 @@
 -- Computed tests of the definitions of document 02, Card 1, as one table checked by one fact: steps, choices, what is drawn, two records, and what inputs
 -- ask for. What is expected was written by hand from the card, or printed by a program of its own.
 -- Assumes nothing.
+use Rattle.std.specs.Prelude.{Option, Some, None}
 use mathlib.Core.Path.{◌≡◌, refl}
 use mathlib.Core.Bool.{Bool, true, false, ◌&&◌}
 use mathlib.Core.List.{List, [], ◌∷◌, ◌++◌}
@@ -12,19 +13,19 @@ use Rattle.definitions.specs.Record.{digits_of, number_of}
 use Rattle.grammar.specs.Choices.{Drawn, next, choice, draw_slots, draw_from}
 use Rattle.grammar.specs.Families.{beacon, lamp, status, log, relay, meter, station, harbour, families}
 use Rattle.grammar.specs.Load.{draw_record, load, asked_by}
-use Rattle.grammar.specs.declared.Asked.{Asked}
+use Rattle.grammar.specs.declared.Load.{Load}
 
 -- what is computed, and what is expected
 data Case : Type 0 where
   number : ℕ → ℕ → Case
   draws : Drawn → Text → ℕ → Case
-  asks : Text → Asked → Case
+  asks : Text → Option Load → Case
 
-same_asked : Asked → Asked → Bool
-same_asked (Asked.Load a b) (Asked.Load c d) = eqb a c && eqb b d
-same_asked (Asked.Load a b) Asked.Other = false
-same_asked Asked.Other (Asked.Load c d) = false
-same_asked Asked.Other Asked.Other = true
+same_asked : Option Load → Option Load → Bool
+same_asked (Some a) (Some b) = eqb a.start b.start && eqb a.count b.count
+same_asked (Some a) None = false
+same_asked None (Some b) = false
+same_asked None None = true
 
 right : Case → Bool
 right (number n m) = eqb n m
@@ -32,10 +33,10 @@ right (draws d t s) = same d.drawn t && eqb d.state s
 right (asks t a) = same_asked (asked_by t) a
 
 loads : String → ℕ → ℕ → Case
-loads input start count = asks (text input) (Asked.Load start count)
+loads input start count = asks (text input) (Some (record { start = start; count = count }))
 
 nothing : String → Case
-nothing input = asks (text input) Asked.Other
+nothing input = asks (text input) None
 
 -- a slot of the texts
 slot : List String → List Text
@@ -134,7 +135,7 @@ cases =
     ∷ nothing "18446744073709551617\n1\n"
     ∷ nothing "1\n18446744073709551617\n"
     -- a carriage return
-    ∷ asks (49 ∷ 13 ∷ 10 ∷ 49 ∷ 10 ∷ []) Asked.Other
+    ∷ asks (49 ∷ 13 ∷ 10 ∷ 49 ∷ 10 ∷ []) None
     ∷ []
 
 -- one name that opens the families
@@ -143,5 +144,5 @@ unfolding families beacon lamp status log relay meter station harbour
 texts = 0
 
 cases-right : all right cases ≡ true
-unfolding is_digit digits_of number_of draw_slots draw_from load asked_by same_asked right loads nothing slot few some first second both cases texts
+unfolding is_digit digits_of number_of draw_slots draw_from load same_asked right loads nothing slot few some first second both cases texts
 cases-right = refl

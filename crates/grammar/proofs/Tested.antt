@@ -1,6 +1,8 @@
 -- The tests of a family, all computed, and what they show: whatever is drawn from it passes refusals 1 to 9, 16 and 17 (`family-passes`). The catalogue of a
 -- family is its declarations with every possibility of every slot; what is drawn says the same with fewer fields.
 -- Assumes nothing.
+use Rattle.std.specs.Prelude.{Ok}
+use Rattle.definitions.specs.Record.{Read, Declaration, record_is, read_record}
 use mathlib.Core.Bool.{Bool, true, false, not, ◌&&◌, ◌||◌}
 use mathlib.Core.List.{List, [], ◌∷◌, ◌++◌, map}
 use mathlib.Core.Path.{◌≡◌, refl, sym, ap, ◌∙◌, subst}
@@ -12,13 +14,10 @@ use lib.Seq.{take-append_seam, drop-append_seam}
 use borrow.Author.Tests.{ltb-false, le-ltb, not-true}
 use Rattle.definitions.specs.Bytes.{Text, any, all, same, part}
 use Rattle.definitions.specs.Keywords.{is_keyword}
-use Rattle.definitions.specs.Record.{Declaration, record_is, read_record}
 use Rattle.definitions.specs.Sizes.{same_name, new_schema}
 use Rattle.definitions.specs.Refusals.{is_frame, verdict}
 use Rattle.definitions.specs.Answer.{wrong_length}
 use Rattle.definitions.specs.declared.Head.{Head}
-use Rattle.definitions.specs.declared.HeadRead.{HeadRead}
-use Rattle.definitions.specs.declared.Verdict.{Verdict}
 use Rattle.lengths.proofs.Booleans.{neither}
 use Rattle.alike.proofs.Same.{SameHead}
 use Rattle.alike.proofs.Records.{same-stated}
@@ -71,7 +70,7 @@ fine t n targets ds = sound t (take n ds) (drop n ds) && all (is_target_name t d
 
 -- what is seen of all texts before any other text, and what they say
 abbrev pub Sights : Type 0
-Sights = List (Text → HeadRead × Text) × List (Text → HeaderSight) × List Bool × List (Text → FieldSight)
+Sights = List (Text → Read Head × Text) × List (Text → HeaderSight) × List Bool × List (Text → FieldSight)
 
 abbrev pub seen : Family → Sights
 seen x =
@@ -191,10 +190,10 @@ module _ (x : Family) (t : Tested x) (s : ℕ) where
   fewer : FewerGroups some (all_of x.frames)
   fewer = fewer-frames x.frames (before x s)
 
-  abbrev Read : Text → Head → List Group → Type 0
-  Read u h gs = (ds : List Declaration) × (read_record u ≡ record_is h ds) × Says u gs ds
+  abbrev ReadAs : Text → Head → List Group → Type 0
+  ReadAs u h gs = (ds : List Declaration) × (read_record u ≡ record_is h ds) × Says u gs ds
 
-  read : Read rec (head_in head) (x.types ++ some)
+  read : ReadAs rec (head_in head) (x.types ++ some)
   read =
       read-joined head (head_in head) (x.types ++ some) (some-kept x.types x.frames (before x s) some-group) reads-head
       (fewer-readable (fewer-behind x.types fewer) all-readable)
@@ -245,7 +244,7 @@ module _ (x : Family) (t : Tested x) (s : ℕ) where
   few-kept : any (λ (d : Declaration). ltb 64 (length d.fields)) kept.kept ≡ false
   few-kept = any-counted kept.kept ∙ ap (any (ltb 64)) kept.counts ∙ few-drawn x.frames (before x s) few-fields
 
-  whole-passes : verdict whole asking (kept.front ++ kept.kept) (new_schema whole (kept.front ++ kept.kept)) ≡ Verdict.Pass
+  whole-passes : verdict whole asking (kept.front ++ kept.kept) (new_schema whole (kept.front ++ kept.kept)) ≡ (Ok tt)
   unfolding asking
   whole-passes =
       passes whole asking kept.front kept.all kept.kept tests.0 kept.fewer few-kept (ap is_keyword own_name ∙ free)

@@ -1,12 +1,12 @@
 -- Document 02, Card 1: the records of a load, and what the program `load` prints for any input.
 -- Assumes nothing.
-use Rattle.std.specs.Prelude.{Bool, true, false, ◌&&◌, [], ◌∷◌, ◌++◌, map, ℕ, zero, suc, ◌^◌, leb, ltb, eqb, length}
+use Rattle.std.specs.Prelude.{Option, Some, None, Bool, true, false, ◌&&◌, [], ◌∷◌, ◌++◌, map, ℕ, zero, suc, ◌^◌, leb, ltb, eqb, length}
 use Rattle.definitions.specs.Bytes.{Text}
-use Rattle.definitions.specs.Record.{number_at, on_number}
+use Rattle.definitions.specs.Record.{number_at, on_read}
 use Rattle.grammar.specs.Choices.{Drawn, draw_from}
 use Rattle.grammar.specs.Fragments.{slots_of}
 use Rattle.grammar.specs.Families.{families}
-use Rattle.grammar.specs.declared.Asked.{Asked}
+use Rattle.grammar.specs.declared.Load.{Load}
 
 -- the record that is drawn in a state
 abbrev pub draw_record : ℕ → Drawn
@@ -22,14 +22,15 @@ load (suc n) s = (draw_record s).drawn ++ (10 ∷ load n (draw_record s).state)
 abbrev pub in_range : Text → ℕ → ℕ → ℕ → Bool
 in_range input start count end = ltb start (2 ^ 32) && (leb count 65535 && eqb end (length input))
 
-unfoldable pub asked_by : Text → Asked
+abbrev pub asked_by : Text → Option Load
 asked_by input =
-    on_number (number_at input 0) Asked.Other λ start p.
-    on_number (number_at input p) Asked.Other λ count end. elim (in_range input start count end) [ true ↦ Asked.Load start count | false ↦ Asked.Other ]
+    on_read (number_at input 0) None λ start p.
+    on_read (number_at input p) None λ count end.
+    elim (in_range input start count end) [ true ↦ Some (record { start = start; count = count }) | false ↦ None ]
 
-abbrev pub printed : Asked → Text
-printed (Asked.Load start count) = load count start
-printed Asked.Other = []
+abbrev pub printed : Option Load → Text
+printed (Some l) = load l.count l.start
+printed None = []
 
 -- what the program prints for an input
 abbrev pub load_for : Text → Text

@@ -3,9 +3,9 @@
 // inputs. Passing: what is promised of every record; proofs/Every has the theorem and is to be read first.
 #![tactic(auto)]
 
-// What an input of the program `load` asks for: so many records from a start, or nothing, as any input of another form.
-#[derive(Clone, Copy)]
-pub enum Asked {
-    Load { start: u32, count: u32 },
-    Other,
+// What an input of the program `load` asks for: so many records from a start. An input of another form asks for none.
+#[derive(Clone, Copy, Debug, PartialEq, Eq)]
+pub struct Load {
+    pub start: u32,
+    pub count: u32,
 }

@@ -1,5 +1,7 @@
 -- A head that asks for one of the packets and structs passes where the record's own head passes, and gets that one.
 -- Assumes nothing.
+use Rattle.std.specs.Prelude.{Ok, Err}
+use Rattle.definitions.specs.Refusals.{Verdict, maybe_name, fields_names, declarations_names, any_keyword, keyword_name, too_many, duplicate_name, unknown_name, out_of_range, large, ragged, misstated, is_frame, is_target, no_target, refuse_if, verdict}
 use mathlib.Core.Bool.{Bool, true, false, not, ◌&&◌, ◌||◌}
 use mathlib.Core.List.Memᴰ
 use mathlib.Core.List.{List, [], ◌∷◌, ◌++◌, Memᴰ}
@@ -9,13 +11,11 @@ use Rattle.definitions.specs.Bytes.{Text, any, part}
 use Rattle.definitions.specs.Keywords.{is_keyword}
 use Rattle.definitions.specs.Record.{Declaration}
 use Rattle.definitions.specs.Sizes.{Schema, Entry, Row, same_name, annotate_decl, annotate_from, new_schema, parent_id}
-use Rattle.definitions.specs.Refusals.{maybe_name, fields_names, declarations_names, any_keyword, keyword_name, too_many, duplicate_name, unknown_name, out_of_range, large, ragged, misstated, is_frame, is_target, no_target, refuse_if, verdict}
 use Rattle.definitions.specs.FieldParser.{Outcome, refused}
 use Rattle.definitions.specs.Answer.{lower_target, lower_in, lower_record}
 use Rattle.definitions.specs.declared.Part.{Part}
 use Rattle.definitions.specs.declared.Head.{Head}
 use Rattle.definitions.specs.declared.Refusal.{Refusal}
-use Rattle.definitions.specs.declared.Verdict.{Verdict}
 use Rattle.lengths.proofs.Booleans.{neither, refuse-next}
 use Rattle.meaning.proofs.Names.{same_self}
 use Rattle.meaning.proofs.Keywords.{any_append}
@@ -35,7 +35,7 @@ pub record Passed (s : Text) (h : Head) (ds : List Declaration) (schema : Schema
   pub right : misstated schema ≡ false
   pub asked : no_target s h schema ≡ false
 
-pub passed : (s : Text) (h : Head) (ds : List Declaration) (schema : Schema) → verdict s h ds schema ≡ Verdict.Pass → Passed s h ds schema
+pub passed : (s : Text) (h : Head) (ds : List Declaration) (schema : Schema) → verdict s h ds schema ≡ (Ok tt) → Passed s h ds schema
 unfolding verdict
 passed s h ds schema e =
     let a = refuse-next (keyword_name s h ds) Refusal.Keyword _ e in
@@ -49,7 +49,7 @@ passed s h ds schema e =
     let k = refuse-next (no_target s h schema) Refusal.NoTarget _ j.1 in
     record { free = a.0; few = b.0; apart = c.0; known = d.0; fine = f.0; small = g.0; whole = i.0; right = j.0; asked = k.0 }
 
-passes : (s : Text) (h : Head) (ds : List Declaration) (schema : Schema) → Passed s h ds schema → verdict s h ds schema ≡ Verdict.Pass
+passes : (s : Text) (h : Head) (ds : List Declaration) (schema : Schema) → Passed s h ds schema → verdict s h ds schema ≡ (Ok tt)
 unfolding verdict
 passes s h ds schema p =
     go (keyword_name s h ds) Refusal.Keyword _ p.free
@@ -62,7 +62,7 @@ passes s h ds schema p =
     (go (misstated schema) Refusal.Misstated _ p.right
     (go (no_target s h schema) Refusal.NoTarget _ p.asked refl))))))))
   where
-    go : (b : Bool) (why : Refusal) (next : Verdict) → b ≡ false → next ≡ Verdict.Pass → refuse_if b why next ≡ Verdict.Pass
+    go : (b : Bool) (why : Refusal) (next : Verdict) → b ≡ false → next ≡ (Ok tt) → refuse_if b why next ≡ (Ok tt)
     go b why next f g = ap (λ (c : Bool). refuse_if c why next) f ∙ g
 
 -- ---- the names: none is a keyword, so no declaration's is
@@ -114,9 +114,9 @@ module _ (s : Text) (h : Head) (e : Entry) where
         by more none (inr i) =
             ap (λ (b : Bool). picked (b && is_frame c.decl.desc)) (none_named s (λ (n : Part). same_name s c.decl.id n) next ds none e i) ∙ more i
 
-    module _ (ds : List Declaration) (among : Memᴰ e (new_schema s ds)) (pass : verdict s h ds (new_schema s ds) ≡ Verdict.Pass) where
+    module _ (ds : List Declaration) (among : Memᴰ e (new_schema s ds)) (pass : verdict s h ds (new_schema s ds) ≡ (Ok tt)) where
       -- 16: its name is one of the record's; 9: it is there
-      pub asked-passes : verdict s asks ds (new_schema s ds) ≡ Verdict.Pass
+      pub asked-passes : verdict s asks ds (new_schema s ds) ≡ (Ok tt)
       unfolding any_keyword no_target
       asked-passes =
           let p = passed s h ds (new_schema s ds) pass in
@@ -140,5 +140,5 @@ module _ (s : Text) (h : Head) (e : Entry) where
       pub asked-lowers : lower_record s asks ds (new_schema s ds) ≡ lower_target s h e
       unfolding lower_record
       asked-lowers =
-          ap (λ (v : Verdict). elim v as (λ _. Outcome) [ Verdict.Pass ↦ lower_in s asks (new_schema s ds) | Verdict.Refuse why ↦ refused why ]) asked-passes
+          ap (λ (v : Verdict). elim v as (λ _. Outcome) [ (Ok tt) ↦ lower_in s asks (new_schema s ds) | Err why ↦ refused why ]) asked-passes
           ∙ finds [] ds among (passed s h ds (new_schema s ds) pass).apart

@@ -1,18 +1,18 @@
 -- What is tested before any target: in `lower` and in `lower_all` the same.
 -- Assumes nothing.
+use Rattle.std.specs.Prelude.{Ok, Err}
+use Rattle.definitions.specs.Refusals.{Verdict, keyword_name, too_many, duplicate_name, unknown_name, out_of_range, large, ragged, misstated, no_target, refuse_if, verdict}
 use mathlib.Core.Bool.{Bool, true, false}
 use mathlib.Core.List.{List}
 use mathlib.Core.Path.{◌≡◌, refl, ap, ◌∙◌}
 use Rattle.definitions.specs.Bytes.{Text}
 use Rattle.definitions.specs.Record.{Declaration, RecordRead, record_is, no_record, read_record}
 use Rattle.definitions.specs.Sizes.{Schema, new_schema}
-use Rattle.definitions.specs.Refusals.{keyword_name, too_many, duplicate_name, unknown_name, out_of_range, large, ragged, misstated, no_target, refuse_if, verdict}
 use Rattle.definitions.specs.FieldParser.{Outcome, refused}
 use Rattle.definitions.specs.Answer.{lower_in, lower_record, answer_read, wrong_length, answer}
 use Rattle.definitions.specs.All.{Outcomes, refused_all, lower_each, all_record, all_read, answer_all}
 use Rattle.definitions.specs.declared.Head.{Head}
 use Rattle.definitions.specs.declared.Refusal.{Refusal}
-use Rattle.definitions.specs.declared.Verdict.{Verdict}
 use Rattle.alike.proofs.Plainly.{answer-of}
 use Rattle.alike.proofs.Retargeted.{all_of}
 use Rattle.joined.specs.Begins.{early, Begins}
@@ -39,17 +39,17 @@ wrong-form s w r = (
 -- ---- 3 to 9, 16 and 17
 
 module _ (s : Text) (h : Head) (ds : List Declaration) (schema : Schema) where
-  refused-both : (why : Refusal) → verdict s h ds schema ≡ Verdict.Refuse why
+  refused-both : (why : Refusal) → verdict s h ds schema ≡ Err why
       → (lower_record s h ds schema ≡ refused why) × (all_record s h ds schema ≡ refused_all why)
   unfolding lower_record all_record
   refused-both why v = (
-    ap (λ (w : Verdict). elim w as (λ _. Outcome) [ Verdict.Pass ↦ lower_in s h schema | Verdict.Refuse y ↦ refused y ]) v,
-    ap (λ (w : Verdict). elim w as (λ _. Outcomes) [ Verdict.Pass ↦ lower_each s h schema | Verdict.Refuse y ↦ refused_all y ]) v,
+    ap (λ (w : Verdict). elim w as (λ _. Outcome) [ (Ok tt) ↦ lower_in s h schema | Err y ↦ refused y ]) v,
+    ap (λ (w : Verdict). elim w as (λ _. Outcomes) [ (Ok tt) ↦ lower_each s h schema | Err y ↦ refused_all y ]) v,
   )
 
   abbrev IsEarly : Verdict → Type 0
-  IsEarly (Verdict.Refuse why) = early why ≡ true
-  IsEarly Verdict.Pass = Unit {0}
+  IsEarly (Err why) = early why ≡ true
+  IsEarly (Ok tt) = Unit {0}
 
   or-early : (b : Bool) (why : Refusal) (next : Verdict) → early why ≡ true → IsEarly next → IsEarly (refuse_if b why next)
   or-early true why next j k = j
@@ -66,7 +66,7 @@ module _ (s : Text) (h : Head) (ds : List Declaration) (schema : Schema) where
       (or-early (large schema) Refusal.TooLarge _ refl
       (or-early (ragged s schema) Refusal.NotWholeBytes _ refl
       (or-early (misstated schema) Refusal.Misstated _ refl
-      (or-early (no_target s h schema) Refusal.NoTarget Verdict.Pass refl tt))))))))
+      (or-early (no_target s h schema) Refusal.NoTarget (Ok tt) refl tt))))))))
 
 -- ---- each text
 
@@ -75,8 +75,8 @@ both-begin s = by (wrong_length s) refl (read_record s) refl
   where
     judged : (h : Head) (ds : List Declaration) → wrong_length s ≡ false → read_record s ≡ record_is h ds
         → (v : Verdict) → verdict s h ds (new_schema s ds) ≡ v → IsEarly s h ds (new_schema s ds) v → Begins s
-    judged h ds w r Verdict.Pass e k = Begins.passed h ds w r e
-    judged h ds w r (Verdict.Refuse why) e k =
+    judged h ds w r (Ok tt) e k = Begins.passed h ds w r e
+    judged h ds w r (Err why) e k =
         let b = refused-both s h ds (new_schema s ds) why e in
         Begins.turned why k (answer-of s h ds w r ∙ b.0) (all_of s h ds w r ∙ b.1)
 

@@ -3,6 +3,7 @@
 -- record with another name in its `target` line (alike/specs/Retarget), and what is in specs/ here: single calls (Calls), what both functions test before
 -- any target (Begins), and what is said of each section (Sections).
 -- Assumes nothing.
+use Rattle.std.specs.Prelude.{Ok}
 use mathlib.Core.Bool.{Bool, true, false}
 use mathlib.Core.List.{List, Memᴰ}
 use mathlib.Core.Path.{◌≡◌, sym, ap, ◌∙◌, subst}
@@ -18,7 +19,6 @@ use Rattle.definitions.specs.All.{Section, section_lines, sections_text, accepte
 use Rattle.definitions.specs.declared.Part.{Part}
 use Rattle.definitions.specs.declared.Head.{Head}
 use Rattle.definitions.specs.declared.Refusal.{Refusal}
-use Rattle.definitions.specs.declared.Verdict.{Verdict}
 use Rattle.lengths.proofs.Booleans.{impossible}
 use Rattle.meaning.proofs.Entries.{EntryOk, EntriesOk, Lowers, each-ok}
 use Rattle.meaning.proofs.Demands.{demand-3-of, bits_of}
@@ -41,7 +41,7 @@ begins s = both-begin s
 
 -- ==== A record that passes them
 
-module _ (s : Text) (h : Head) (ds : List Declaration) (read : read_record s ≡ record_is h ds) (pass : verdict s h ds (new_schema s ds) ≡ Verdict.Pass) where
+module _ (s : Text) (h : Head) (ds : List Declaration) (read : read_record s ≡ record_is h ds) (pass : verdict s h ds (new_schema s ds) ≡ (Ok tt)) where
   -- "a single call's lines for that target": the record that asks for one of its packets and structs, where it is no longer than a record may be,
   -- answers what that one is lowered to, lines or a refusal.
   pub single-call : (e : Entry) → Memᴰ e (frames (new_schema s ds)) → length (call_of s h e) ≤ 16384 → answer (call_of s h e) ≡ lower_target s h e
@@ -59,7 +59,7 @@ module _ (s : Text) (h : Head) (ds : List Declaration) (read : read_record s ≡
       let f = frame-of (new_schema s ds) e m in
       each-named s
       (λ (n : Part).
-      length (with_target s h (part s n)) ≤ 16384 → verdict s (asking n h) ds (new_schema s ds) ≡ Verdict.Pass
+      length (with_target s h (part s n)) ≤ 16384 → verdict s (asking n h) ds (new_schema s ds) ≡ (Ok tt)
       → answer_all (with_target s h (part s n)) ≡ answer_all s)
       ds (λ pre post d i l v. all-asking s h ds read pre post d i l pass v w) e f.0 fit (asked-passes s h e f.1 ds f.0 pass)
 
@@ -84,7 +84,7 @@ module _ (s : Text) (h : Head) (ds : List Declaration) (read : read_record s ≡
 
 -- "the whole is these joined. The first refused target refuses the file": `lower_all` answers what single calls for all of them give together.
 pub as-calls : (s : Text) (h : Head) (ds : List Declaration) → wrong_length s ≡ false → read_record s ≡ record_is h ds
-    → verdict s h ds (new_schema s ds) ≡ Verdict.Pass → CallsFit s h (frames (new_schema s ds)) → answer_all s ≡ calls s h (frames (new_schema s ds))
+    → verdict s h ds (new_schema s ds) ≡ (Ok tt) → CallsFit s h (frames (new_schema s ds)) → answer_all s ≡ calls s h (frames (new_schema s ds))
 as-calls s h ds w read pass fit =
     all_of s h ds w read ∙ all-passed s h ds (new_schema s ds) pass
     ∙ each-calls s h (new_schema s ds) (λ e m. single-call s h ds read pass e m (fits-of s h (frames (new_schema s ds)) fit e m))

@@ -1,5 +1,6 @@
 -- The whole of an accepted file has at most `most_all` bytes, and no refusal is 15 but for a buffer that is too short. What is written where 0 is answered.
 -- Assumes nothing.
+use Rattle.std.specs.Prelude.{Ok}
 use mathlib.Core.Bool.{Bool, true, false, ◌||◌}
 use mathlib.Core.List.{List, [], ◌∷◌, Memᴰ}
 use mathlib.Core.Path.{◌≡◌, refl, sym, ap, ◌∙◌, subst}
@@ -20,7 +21,6 @@ use Rattle.definitions.specs.All.{Section, sections_text, Outcomes, refused_all,
 use Rattle.definitions.specs.declared.Field.{Field}
 use Rattle.definitions.specs.declared.Head.{Head}
 use Rattle.definitions.specs.declared.Refusal.{Refusal}
-use Rattle.definitions.specs.declared.Verdict.{Verdict}
 use Rattle.lengths.specs.Shares.{most_bytes}
 use Rattle.lengths.proofs.Booleans.{neither}
 use Rattle.lengths.proofs.Names.{DeclarationsAre, RecordOk, ShortName, names-short}
@@ -100,7 +100,7 @@ module _ (s : Text) (h : Head) where
       []
 
   -- of a record that passes 1 to 9, 16 and 17
-  all_fit : (ds : List Declaration) → read_record s ≡ record_is h ds → verdict s h ds (new_schema s ds) ≡ Verdict.Pass
+  all_fit : (ds : List Declaration) → read_record s ≡ record_is h ds → verdict s h ds (new_schema s ds) ≡ (Ok tt)
       → WholeFits 32 (lower_each s h (new_schema s ds))
   unfolding too_many out_of_range
   all_fit ds r v =

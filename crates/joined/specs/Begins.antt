@@ -1,6 +1,6 @@
 -- How `lower` and `lower_all` begin: 1 to 9, 16 and 17, before any target.
 -- Assumes nothing.
-use Rattle.std.specs.Prelude.{Bool, true, false, ◌||◌, List, ◌≡◌, ltb, eqb}
+use Rattle.std.specs.Prelude.{Ok, Bool, true, false, ◌||◌, List, ◌≡◌, ltb, eqb}
 use Rattle.definitions.specs.Bytes.{Text}
 use Rattle.definitions.specs.Record.{Declaration, record_is, read_record}
 use Rattle.definitions.specs.Sizes.{new_schema}
@@ -10,7 +10,6 @@ use Rattle.definitions.specs.Answer.{wrong_length, answer}
 use Rattle.definitions.specs.All.{refused_all, answer_all}
 use Rattle.definitions.specs.declared.Head.{Head}
 use Rattle.definitions.specs.declared.Refusal.{Refusal}
-use Rattle.definitions.specs.declared.Verdict.{Verdict}
 
 -- 1 to 9, 16 or 17
 abbrev pub early : Refusal → Bool
@@ -20,4 +19,4 @@ early why = ltb (number why) 10 || eqb (number why) 16 || eqb (number why) 17
 pub data Begins (s : Text) : Type 0 where
   turned : (why : Refusal) → early why ≡ true → answer s ≡ refused why → answer_all s ≡ refused_all why → Begins s
   passed : (h : Head) (ds : List Declaration) → wrong_length s ≡ false → read_record s ≡ record_is h ds
-      → verdict s h ds (new_schema s ds) ≡ Verdict.Pass → Begins s
+      → verdict s h ds (new_schema s ds) ≡ (Ok tt) → Begins s

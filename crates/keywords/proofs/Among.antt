@@ -1,5 +1,6 @@
 -- The turns and the ends of the loop over words of one length (`pieces`).
 -- Assumes nothing.
+use Rattle.std.specs.Prelude.{Option, Some, None}
 use Prim.Native.Nat.{ℕ, suc, ◌+◌, ◌*◌, ◌-◌, ◌≤◌, ◌<◌}
 use mathlib.Core.Bool.{Bool, true, false, ◌&&◌, ◌||◌}
 use mathlib.Core.List.{[], ◌∷◌}
@@ -11,7 +12,6 @@ use lib.ListN.{length, take, drop}
 use lib.Seq.{drop-drop}
 use Rattle.definitions.specs.Bytes.{Text, any, same}
 use Rattle.definitions.specs.Record.{key_of, key_at, is_found}
-use Rattle.definitions.specs.declared.Found.{Found}
 use Rattle.keywords.specs.Pieces.{pieces}
 
 turned : (a b : ℕ) → eqb a b ≡ eqb b a
@@ -29,7 +29,7 @@ key-same (k ∷ t) [] at = refl
 key-same (k ∷ t) (x ∷ r) at = rw (turned k x) (by (eqb x k) (key-same t r (at + 1)))
   where
     by : (b : Bool) → same t (take (length t) r) ≡ is_found (key_of t r (at + 1))
-        → (b && same t (take (length t) r)) ≡ is_found (elim b [ true ↦ key_of t r (at + 1) | false ↦ Found.Nothing ])
+        → (b && same t (take (length t) r)) ≡ is_found (elim b [ true ↦ key_of t r (at + 1) | false ↦ None ])
     by true h = h
     by false h = refl
 
@@ -47,7 +47,7 @@ module _ (words : Text) (count : ℕ) (t : Text) (p left : ℕ) (l : Left words 
   unfolding pieces
   left-none h = rw (let z : left ≡ 0 = omega arith in z) at l.rest
 
-  module _ (h : 0 < left) {r : Found} (er : r ≡ key_at words p t) where
+  module _ (h : 0 < left) {r : Option ℕ} (er : r ≡ key_at words p t) where
     more : left ≡ suc (left - 1)
     more = omega arith
 
@@ -57,18 +57,18 @@ module _ (words : Text) (count : ℕ) (t : Text) (p left : ℕ) (l : Left words 
 
     parted : ahead (is_found r) ≡ any (same t) (pieces count (length t) words)
     unfolding pieces
-    parted = ap (λ (f : Found). ahead (is_found f)) er ∙ ap ahead (sym (key-same t (drop p words) p)) ∙ (rw (more, pieces) at l.rest)
+    parted = ap (λ (f : Option ℕ). ahead (is_found f)) er ∙ ap ahead (sym (key-same t (drop p words) p)) ∙ (rw (more, pieces) at l.rest)
 
-    pub left-found : {q : ℕ} → r ≡ Found.At q → true ≡ any (same t) (pieces count (length t) words)
-    left-found hr = sym (ap (λ (f : Found). ahead (is_found f)) hr) ∙ parted
+    pub left-found : {q : ℕ} → r ≡ Some q → true ≡ any (same t) (pieces count (length t) words)
+    left-found hr = sym (ap (λ (f : Option ℕ). ahead (is_found f)) hr) ∙ parted
 
-    pub left-turn : r ≡ Found.Nothing → length t ≤ 16 → Left words count t (p + (length t + 1)) (left - 1)
+    pub left-turn : r ≡ None → length t ≤ 16 → Left words count t (p + (length t + 1)) (left - 1)
     left-turn hr n = record {
       few = omega (arith, l.few);
       near = omega (arith, l.few, l.near);
       rest =
           ap (λ (x : Text). any (same t) (pieces (left - 1) (length t) x)) (ap (λ (k : ℕ). drop k words) place ∙ sym (drop-drop (suc (length t)) p words))
-          ∙ sym (ap (λ (f : Found). ahead (is_found f)) hr) ∙ parted;
+          ∙ sym (ap (λ (f : Option ℕ). ahead (is_found f)) hr) ∙ parted;
     }
       where
         place : p + (length t + 1) ≡ p + suc (length t)

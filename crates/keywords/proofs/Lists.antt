@@ -7,12 +7,13 @@ use mathlib.Core.List.{List, [], ◌∷◌}
 use mathlib.Core.Path.{◌≡◌, refl, sym, ap, ◌∙◌, subst}
 use native.Mathlib.Omega.{arith}
 use native.Mathlib.Nat.{not-suc-le-zero}
-use borrow.Author.Tests.{eqb-true, eqb-false, eq-eqb, ne_eqb, le-ltb, le-leb, lt-leb}
+use borrow.Author.Tests.{eqb-true, eqb-false, eq-eqb, ne_eqb, le-ltb, leb-true, not-false}
 use lib.Dec.{T, eqb, ltb, leb}
 use lib.ListN.{length, get_or}
 use store.Enc.{and_l, and_r}
 use Rattle.definitions.specs.Bytes.{Text, any, all, same}
 use Rattle.definitions.specs.Keywords.{keywords, is_keyword}
+use Rattle.std.specs.Char.{is_ascii_lowercase}
 use Rattle.text.proofs.Table.{every, entry}
 use Rattle.keywords.specs.Pieces.{pieces, begins, may_be}
 
@@ -219,6 +220,10 @@ begins-length n c (w ∷ ws) = by w (eqb (length w) n) refl (begins-length n c w
     by [] false e ih = ih
     by (x ∷ v) false e ih = ih ∙ rw e
 
+both : (x y : Bool) → (x && y) ≡ true → (x ≡ true) × (y ≡ true)
+both true y e = (refl, e)
+both false y e = absurd (let z : ◌≡◌ {A = ℕ} 0 1 = cc in omega arith)
+
 -- a small letter, and a word that begins with one
 letter : ℕ → Bool
 letter c = leb 97 c && leb c 122
@@ -238,24 +243,20 @@ module _ (n c : ℕ) where
       by false e true = refl
       by false e false = refl
 
-  no-letter : letter c ≡ false → false ≡ may_be n c
+  pub no-letter : is_ascii_lowercase c ≡ false → false ≡ may_be n c
   unfolding may_be keywords small letter
   no-letter h = sym (none-by (begins n c) small (other-letter h) keywords tt)
 
-  pub low_byte : c < 97 → false ≡ may_be n c
-  unfolding letter
-  low_byte h = no-letter (rw (lt-leb 97 c h))
-
-  pub high_byte : 97 ≤ c → 122 < c → false ≡ may_be n c
-  unfolding letter
-  high_byte g h = no-letter (rw (le-leb 97 c g, lt-leb c 122 h))
-
-  pub from-letters : (entries : List ℕ) → length entries ≡ 17 → n ≤ 16 → 97 ≤ c → c ≤ 122 → T (every letters 0 entries)
-      → eqb (get_or entries n 0 / 2 ^ (c - 97) % 2) 1 ≡ may_be n c
+  pub from-letters : (entries : List ℕ) → length entries ≡ 17 → n ≤ 16 → {b : Bool} → b ≡ is_ascii_lowercase c → not b ≡ false → T (every letters 0 entries)
+      → {k : ℕ} → k ≡ c - 97 → eqb (get_or entries n 0 / 2 ^ k % 2) 1 ≡ may_be n c
   unfolding letters letters_of may_be
-  from-letters entries long h low high t =
-      alike_is (eqb (get_or entries n 0 / 2 ^ (c - 97) % 2) 1) (any (begins n (97 + (c - 97))) (of_length n keywords))
+  from-letters entries long h {b} q y t e =
+      let l = both (leb 97 c) (leb c 122) (sym q ∙ not-false b y) in
+      let low : 97 ≤ c = leb-true 97 c l.0 in
+      let high : c ≤ 122 = leb-true c 122 l.1 in
+      rw e
+      (alike_is (eqb (get_or entries n 0 / 2 ^ (c - 97) % 2) 1) (any (begins n (97 + (c - 97))) (of_length n keywords))
       (below (λ (k : ℕ). alike (eqb (get_or entries n 0 / 2 ^ k % 2) 1) (any (begins n (97 + k)) (of_length n keywords))) 26 (c - 97) (omega arith)
       (entry letters entries t n (omega (arith, long))))
       ∙ begins-length n (97 + (c - 97)) keywords
-      ∙ ap (may_be n) (let z : 97 + (c - 97) ≡ c = omega arith in z)
+      ∙ ap (may_be n) (let z : 97 + (c - 97) ≡ c = omega arith in z))

@@ -1,4 +1,4 @@
-// The leaf that reads a name of the record, and the keywords of C++17 (document 02, Card 6). It hands out no name that is a keyword, yet the place
+// The leaf that reads a name of the record, and the keywords of C++17. It hands out no name that is a keyword, yet the place
 // behind it. A name's length and first byte mostly tell that it is none; else it is compared with the keywords of its length.
 #![tactic(auto)]
 
@@ -9,7 +9,7 @@ ghost use Rattle.definitions.specs.Record.{name_at};
 ghost use Rattle.keywords.specs.Screens.{screen_name};
 ghost use Rattle.keywords.specs.Pieces.{pieces, may_be};
 
-use definitions::{Found, NameRead, ScreenedName, ScreenedNameRead};
+use definitions::{Part, Read};
 
 // Whether a name is one of `count` words of its own length, each with a byte behind it.
 fn is_among(words: &[u8], count: usize, name: &[u8]) -> bool
@@ -19,7 +19,7 @@ fn is_among(words: &[u8], count: usize, name: &[u8]) -> bool
     let mut p = 0;
     let mut left = count;
     while 0 < left {
-        if let Found::At(_) = names::key_at(words, p, name) {
+        if let Some(_) = names::key_at(words, p, name) {
             return true;
         }
         p += name.len() + 1;
@@ -134,15 +134,11 @@ fn may_be(n: usize, first: u8) -> bool
     requires { n ≤ 16 }
     ensures { result ≡ may_be n first }
 {
-    if first < 97 {
+    if !first.is_ascii_lowercase() {
         return false;
     }
-    if 122 < first {
-        return false;
-    }
-    let letters = FIRST_LETTERS[n];
-    let letter = first as u32 - 97;
-    (letters >> letter) % 2 == 1
+    let letter = u32::from(first - b'a');
+    (FIRST_LETTERS[n] >> letter) % 2 == 1
 }
 
 // Exactly one of the 84 words.
@@ -150,27 +146,21 @@ fn is_keyword(name: &[u8]) -> bool
     ensures { result ≡ is_keyword name.now }
 {
     let n = name.len();
-    if n == 0 {
+    if n == 0 || 16 < n {
         return false;
     }
-    if 16 < n {
-        return false;
-    }
-    if may_be(n, name[0]) {
-        return is_listed(name);
-    }
-    false
+    may_be(n, name[0]) && is_listed(name)
 }
 
 // A name at a place, with its newline.
-pub fn name_at(rec: &[u8], at: usize) -> ScreenedNameRead
+pub fn name_at(rec: &[u8], at: usize) -> Read<Option<Part>>
     ensures { result ≡ screen_name rec.now (name_at rec.now at) }
 {
-    let NameRead::Is(name, p) = names::name_at(rec, at) else {
-        return ScreenedNameRead::Wrong;
+    let (name, p) = names::name_at(rec, at)?;
+    let free = if is_keyword(names::part(rec, name)) {
+        None
+    } else {
+        Some(name)
     };
-    if is_keyword(names::part(rec, name)) {
-        return ScreenedNameRead::Is(ScreenedName::Keyword, p);
-    }
-    ScreenedNameRead::Is(ScreenedName::Free(name), p)
+    Some((free, p))
 }

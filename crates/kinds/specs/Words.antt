@@ -1,20 +1,10 @@
 -- The kinds of fields that can be bit fields, by their words behind `field=`, in the order of `kinds`: first those with a width and a number, then
 -- the others. Those that are no bit fields follow.
 -- Assumes nothing.
-use Rattle.std.specs.Prelude.{[], ◌∷◌, ◌++◌, ℕ}
+use Rattle.std.specs.Prelude.{[], ◌∷◌, ◌++◌}
 use Rattle.definitions.specs.Bytes.{text}
 use Rattle.definitions.specs.Record.{Kinds, scalar_at, size_at, count_at, element_size_at, fixed_scalar_at, fixed_enum_at, reserved_at, flag_at, typedef_at}
-use Rattle.definitions.specs.declared.Part.{Part}
-use Rattle.definitions.specs.declared.FieldDesc.{FieldDesc}
 use Rattle.byte_kinds.specs.Words.{byte_kinds}
-use Rattle.kinds.specs.declared.Named.{Named}
-
--- the field of a name and a width
-abbrev pub named : Named → Part → ℕ → FieldDesc
-named Named.Scalar = FieldDesc.Scalar
-named Named.Size = FieldDesc.Size
-named Named.Count = FieldDesc.Count
-named Named.ElementSize = FieldDesc.ElementSize
 
 abbrev pub number_kinds : Kinds
 number_kinds =

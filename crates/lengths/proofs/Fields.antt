@@ -1,5 +1,6 @@
 -- Each field of the target, by its kind: the lines that it gives are within its share.
 -- Assumes nothing.
+use Rattle.std.specs.Prelude.{Option, Some, None}
 use mathlib.Core.Bool.{Bool, true, false, ◌||◌}
 use mathlib.Core.List.{List, [], ◌∷◌}
 use mathlib.Core.Path.{◌≡◌, refl}
@@ -12,16 +13,14 @@ use Rattle.definitions.specs.Bytes.{Text, text, pick}
 use Rattle.definitions.specs.Sizes.{Annotated, enum_of, is_bitfield, is_payload_id, has_payload_size, total_of, typed_element, element_size, array_size, first_count, counted_by, same_name, reference, any_reference, annotate_field, padded_by, annotate_fields}
 use Rattle.definitions.specs.Sizes as sizes
 use Rattle.definitions.specs.Refusals.{bad_number, bad_modifier, bad_maybe, bad_count, bad_width}
-use Rattle.definitions.specs.Blocks.{Kind, Array, named, Block}
+use Rattle.definitions.specs.Blocks.{Kind, Elem, Array, named, Block}
 use Rattle.definitions.specs.FieldParser.{Setting, FieldParser, Step, go, stop, and_then, new, check_code, written, member, field_name, is_cond_for, enum_kind, kind_of, parse_bit_field, Emit, appends, silent, refuses, on_boundary, on_trailing, get_trailing_size, typedef_by_size, parse_typedef_field, optional_typedef, parse_optional_field, payload_name, payload_by_size, parse_payload_field_lite, size_backing, typed_elem, elem_of, type_name, array_of, with_padding, parse_array_field, parse_other, is_bit, parse_unchecked, emitted, parse, parse_all, done, code_of, lower_fields}
-use Rattle.definitions.specs.declared.EnumOf.{EnumOf}
+use Rattle.definitions.specs.declared.EnumKind.{EnumKind}
 use Rattle.definitions.specs.declared.Part.{Part}
-use Rattle.definitions.specs.declared.MaybePart.{MaybePart}
-use Rattle.definitions.specs.declared.MaybeNumber.{MaybeNumber}
 use Rattle.definitions.specs.declared.Modifier.{Modifier}
 use Rattle.definitions.specs.declared.Arrays.{Arrays}
 use Rattle.definitions.specs.declared.FieldDesc.{FieldDesc}
-use Rattle.definitions.specs.declared.Cond.{Cond}
+use Rattle.definitions.specs.declared.Condition.{Condition}
 use Rattle.definitions.specs.declared.Field.{Field}
 use Rattle.definitions.specs.declared.Size.{Size}
 use Rattle.definitions.specs.declared.ElementSize.{ElementSize}
@@ -57,13 +56,13 @@ module _ (c : Setting) where
   member-short id h = omega (arith, named-length c.options.arrays (written c id) (text "_"), h)
 
   -- what a bit field's bits are put into
-  enum_kind_lem : (id type : Part) (e : EnumOf) → Named id → Named type → KindShort (enum_kind (member c id) (written c type) e)
-  enum_kind_lem id type (EnumOf.Enum w o f) h k = by (o || f)
+  enum_kind_lem : (id type : Part) (e : Option EnumKind) → Named id → Named type → KindShort (enum_kind (member c id) (written c type) e)
+  enum_kind_lem id type (Some kind) h k = by (kind.is_open || kind.is_complete)
     where
       by : (b : Bool) → KindShort (pick b (Kind.open_enum (member c id) (written c type)) (Kind.closed_enum (member c id) (written c type)))
       by true = (omega (arith, member-short id h), k)
       by false = (omega (arith, member-short id h), k)
-  enum_kind_lem id type EnumOf.None h k = omega (arith, member-short id h)
+  enum_kind_lem id type None h k = omega (arith, member-short id h)
 
   kind-short : (d : FieldDesc) → DescIs Named d → KindShort (kind_of c d)
   unfolding kind_of
@@ -97,9 +96,9 @@ module _ (c : Setting) where
       by true = h
       by false = refl
 
-  trailing-fits : (n : ℕ) (t : MaybeNumber) (f : ℕ → Emit) → ((k : ℕ) → EmitFits n (f k)) → EmitFits n (on_trailing t f)
-  trailing-fits n MaybeNumber.None f h = refl
-  trailing-fits n (MaybeNumber.Some k) f h = h k
+  trailing-fits : (n : ℕ) (t : Option ℕ) (f : ℕ → Emit) → ((k : ℕ) → EmitFits n (f k)) → EmitFits n (on_trailing t f)
+  trailing-fits n None f h = refl
+  trailing-fits n (Some k) f h = h k
 
   pick-within : (n : ℕ) (b : Bool) (x y : Block) → Within n x → Within n y → Within n (pick b x y)
   pick-within n true x y h k = h
@@ -130,29 +129,32 @@ module _ (c : Setting) where
           trailing-fits plain_field (get_trailing_size c.options.trailing later) _
           (λ n. pick-within plain_field (ltb 0 n) _ _ (payload-up-to (payload_name c (text "_")) x (n / 8)) (payload-to-end (payload_name c (text "_")) x))
 
-  optional-typedef : (cond : Part) (v : ℕ) (id type : Part) (e : EnumOf) → Named cond → Named id → Named type
+  optional-typedef : (cond : Part) (v : ℕ) (id type : Part) (e : Option EnumKind) → Named cond → Named id → Named type
       → Within plain_field (optional_typedef c cond v id type e)
-  optional-typedef cond v id type (EnumOf.Enum w is_open is_complete) g h k =
-      pick-within plain_field is_open _ _
-      (optional-open (member c id) (member-short id h) (written c cond) v g c.options.endianness w (written c type) k)
-      (optional-closed (member c id) (member-short id h) (written c cond) v g c.options.endianness w (written c type) k)
-  optional-typedef cond v id type EnumOf.None g h k = optional-nested (member c id) (member-short id h) (written c cond) v (written c type) g k
+  optional-typedef cond v id type (Some kind) g h k =
+      pick-within plain_field kind.is_open _ _
+      (optional-open (member c id) (member-short id h) (written c cond) v g c.options.endianness kind.width (written c type) k)
+      (optional-closed (member c id) (member-short id h) (written c cond) v g c.options.endianness kind.width (written c type) k)
+  optional-typedef cond v id type None g h k = optional-nested (member c id) (member-short id h) (written c cond) v (written c type) g k
 
   -- ---- arrays
 
-  elem-short : (width : MaybeNumber) (type : MaybePart) → MaybeIs Named type → ElemShort (elem_of c width type)
-  elem-short (MaybeNumber.Some w) type h = tt
-  elem-short MaybeNumber.None MaybePart.None h = omega arith
-  elem-short MaybeNumber.None (MaybePart.Some type) h = by (enum_of c.source c.scope type)
+  elem-short : (width : Option ℕ) (type : Option Part) → MaybeIs Named type → ElemShort (elem_of c width type)
+  elem-short (Some w) type h = tt
+  elem-short None None h = omega arith
+  elem-short None (Some type) h = by (enum_of c.source c.scope type)
     where
-      by : (e : EnumOf) → ElemShort (typed_elem c.options.endianness (written c type) e)
-      by (EnumOf.Enum w true f) = h
-      by (EnumOf.Enum w false f) = h
-      by EnumOf.None = h
+      marked : (w : ℕ) (b : Bool) → ElemShort (pick b (Elem.open_enum (written c type) c.options.endianness w) (Elem.closed_enum (written c type) c.options.endianness w))
+      marked w true = h
+      marked w false = h
 
-  type-short : (type : MaybePart) → MaybeIs Named type → length (type_name c type) ≤ 32
-  type-short MaybePart.None h = omega arith
-  type-short (MaybePart.Some type) h = h
+      by : (e : Option EnumKind) → ElemShort (typed_elem c.options.endianness (written c type) e)
+      by (Some kind) = marked kind.width kind.is_open
+      by None = h
+
+  type-short : (type : Option Part) → MaybeIs Named type → length (type_name c type) ≤ 32
+  type-short None h = omega arith
+  type-short (Some type) h = h
 
   count-below : (n : ℕ) → bad_count n ≡ false → n ≤ 65535
   count-below n e = ltb-false 65535 n (neither (ltb n 0) (ltb 65535 n) e).1
@@ -162,20 +164,20 @@ module _ (c : Setting) where
   modified (Modifier.Plus n) e = count-below n e
   modified (Modifier.Minus n) e = count-below n e
 
-  counted : (id : Part) (size : MaybeNumber) → bad_maybe bad_count size ≡ false → Counted (array_size c.source c.fields id size)
+  counted : (id : Part) (size : Option ℕ) → bad_maybe bad_count size ≡ false → Counted (array_size c.source c.fields id size)
   unfolding first_count
-  counted id (MaybeNumber.Some n) e = count-below n e
-  counted id MaybeNumber.None e = by c.fields
+  counted id (Some n) e = count-below n e
+  counted id None e = by c.fields
     where
       picked : (b : Bool) (x y : ArraySize) → Counted x → Counted y → Counted (pick b x y)
       picked true x y h k = h
       picked false x y h k = k
 
-      one : (r : Reference) (other : ArraySize) → Counted other → Counted (counted_by c.source id r other)
-      one Reference.None other h = h
-      one (Reference.Size of width) other h = picked (same_name c.source of id) _ _ tt h
-      one (Reference.Count of) other h = picked (same_name c.source of id) _ _ tt h
-      one (Reference.ElementSize of) other h = h
+      one : (r : Option Reference) (other : ArraySize) → Counted other → Counted (counted_by c.source id r other)
+      one None other h = h
+      one (Some (Reference.Size of width)) other h = picked (same_name c.source of id) _ _ tt h
+      one (Some (Reference.Count of)) other h = picked (same_name c.source of id) _ _ tt h
+      one (Some (Reference.ElementSize of)) other h = h
 
       by : (fs : List Field) → Counted (first_count c.source id fs)
       by [] = tt
@@ -186,13 +188,13 @@ module _ (c : Setting) where
   given id [] e = impossible (cc)
   given id (f ∷ fs) e = by (given id fs) (reference f.desc) e
     where
-      by : (any_reference (sizes.is_element_size c.source id) fs ≡ true → any_reference is_element_size fs ≡ true) → (r : Reference)
+      by : (any_reference (sizes.is_element_size c.source id) fs ≡ true → any_reference is_element_size fs ≡ true) → (r : Option Reference)
           → (sizes.is_element_size c.source id r || any_reference (sizes.is_element_size c.source id) fs) ≡ true
           → (is_element_size r || any_reference is_element_size fs) ≡ true
-      by more Reference.None g = more g
-      by more (Reference.Size of width) g = more g
-      by more (Reference.Count of) g = more g
-      by more (Reference.ElementSize of) g = refl
+      by more None g = more g
+      by more (Some (Reference.Size of width)) g = more g
+      by more (Some (Reference.Count of)) g = more g
+      by more (Some (Reference.ElementSize of)) g = refl
 
   abbrev most : ℕ
   most = most_of c.fields
@@ -209,11 +211,11 @@ module _ (c : Setting) where
   unfolding most_of
   given-most id e = rw (given id c.fields e) (omega arith)
 
-  shape-most : (id : Part) (width : MaybeNumber) (type : MaybePart)
+  shape-most : (id : Part) (width : Option ℕ) (type : Option Part)
       → modifier_line + shape (element_size c.source c.scope c.fields id width type) ≤ most
-  shape-most id (MaybeNumber.Some w) type = omega (arith, plain-most)
-  shape-most id MaybeNumber.None MaybePart.None = omega (arith, plain-most)
-  shape-most id MaybeNumber.None (MaybePart.Some type) =
+  shape-most id (Some w) type = omega (arith, plain-most)
+  shape-most id None None = omega (arith, plain-most)
+  shape-most id None (Some type) =
       by (total_of c.source c.scope type) (any_reference (sizes.is_element_size c.source id) c.fields) (given-most id)
     where
       by : (z : Size) (b : Bool) → (b ≡ true → modifier_line + shape ElementSize.Dynamic ≤ most) → modifier_line + shape (typed_element z b) ≤ most
@@ -223,7 +225,7 @@ module _ (c : Setting) where
       by Size.Unknown true h = omega (arith, h refl)
       by Size.Unknown false h = omega (arith, plain-most)
 
-  array-fits : (padded : MaybeNumber) (id : Part) (width : MaybeNumber) (type : MaybePart) (modifier : Modifier) (size : MaybeNumber)
+  array-fits : (padded : Option ℕ) (id : Part) (width : Option ℕ) (type : Option Part) (modifier : Modifier) (size : Option ℕ)
       → Named id → MaybeIs Named type → bad_modifier modifier ≡ false → bad_maybe bad_count size ≡ false
       → EmitFits (most + padded_bytes padded) (parse_array_field c padded id width type modifier size)
   unfolding parse_array_field
@@ -235,14 +237,14 @@ module _ (c : Setting) where
       short : ArrayShort array
       short = record { id = h; type = type-short type k; elem = elem-short width type k; count = counted id size f }
 
-      by : (p : MaybeNumber) → Within (most + padded_bytes p) (with_padding p modifier (size_backing c.source id c.fields) array)
-      by MaybeNumber.None = wider (array-short array short modifier _ (modified modifier e)) (omega (arith, shape-most id width type))
-      by (MaybeNumber.Some bits) =
+      by : (p : Option ℕ) → Within (most + padded_bytes p) (with_padding p modifier (size_backing c.source id c.fields) array)
+      by None = wider (array-short array short modifier _ (modified modifier e)) (omega (arith, shape-most id width type))
+      by (Some bits) =
           wider (padded-short array short (bits / 8) modifier _ (modified modifier e)) (omega (arith, shape-most id width type))
 
   -- ---- each field, by its kind
 
-  small : (e : Emit) (padded : MaybeNumber) → EmitFits plain_field e → EmitFits (most + padded_bytes padded) e
+  small : (e : Emit) (padded : Option ℕ) → EmitFits plain_field e → EmitFits (most + padded_bytes padded) e
   small (appends b) padded w = wider w (omega (arith, plain-most))
   small silent padded w = tt
   small (refuses why) padded w = w
@@ -272,7 +274,7 @@ module _ (c : Setting) where
       small (on_boundary shift (typedef_by_size c id type later a.field_size)) a.padded_size
       (boundary-fits plain_field shift (typedef_by_size c id type later a.field_size) (typedef-fits id type later a.field_size h.0 h.1))
 
-  optional-fits : (cond : Part) (v : ℕ) (d : FieldDesc) (padded : MaybeNumber) → Named cond → DescIs Named d
+  optional-fits : (cond : Part) (v : ℕ) (d : FieldDesc) (padded : Option ℕ) → Named cond → DescIs Named d
       → EmitFits (share most d + padded_bytes padded) (parse_optional_field c cond v d)
   unfolding parse_optional_field
   optional-fits cond v (FieldDesc.Checksum of) padded g h = refl
@@ -324,22 +326,22 @@ module _ (c : Setting) where
   unfolding parse_unchecked
   unchecked-fits shift a later h = by a.field.cond h.0.1
     where
-      by : (k : Cond) → CondIs Named k → EmitFits (share most a.field.desc + padded_bytes a.padded_size) (elim k [
-        | Cond.None ↦ parse_other c shift a later a.field.desc
-        | Cond.Some id value ↦ parse_optional_field c id value a.field.desc
+      by : (k : Option Condition) → CondIs Named k → EmitFits (share most a.field.desc + padded_bytes a.padded_size) (elim k [
+        | None ↦ parse_other c shift a later a.field.desc
+        | Some cond ↦ parse_optional_field c cond.id cond.value a.field.desc
       ])
-      by Cond.None g = other_fits shift a later a.field.desc h.0.0 h.1
-      by (Cond.Some id value) g = optional-fits id value a.field.desc a.padded_size g h.0.0
+      by None g = other_fits shift a later a.field.desc h.0.0 h.1
+      by (Some cond) g = optional-fits cond.id cond.value a.field.desc a.padded_size g h.0.0
 
   parse-fits : (n i : ℕ) (p : FieldParser) (a : Annotated) (later : List Annotated) → Plain a.field → Holds n (suc i) p
       → StepFits (n + (share most a.field.desc + padded_bytes a.padded_size)) i (parse c p a later)
   unfolding parse is_bit
   parse-fits n i p a later h g = by (is_bit c a.field) (bit a.field.cond)
     where
-      bit : (k : Cond) → elim k as (λ _. Bool) [ Cond.None ↦ is_bitfield c.source c.scope a.field.desc | Cond.Some id value ↦ false ] ≡ true
+      bit : (k : Option Condition) → elim k as (λ _. Bool) [ None ↦ is_bitfield c.source c.scope a.field.desc | Some cond ↦ false ] ≡ true
           → bit_field ≤ share most a.field.desc
-      bit Cond.None e = bit-share a.field.desc e
-      bit (Cond.Some id value) e = impossible (cc)
+      bit None e = bit-share a.field.desc e
+      bit (Some cond) e = impossible (cc)
 
       by : (b : Bool) → (b ≡ true → bit_field ≤ share most a.field.desc)
           → StepFits (n + (share most a.field.desc + padded_bytes a.padded_size)) i (elim b [

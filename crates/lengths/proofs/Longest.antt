@@ -1,6 +1,8 @@
 -- The lines of an accepted record have at most 65,536 bytes, so a buffer of that many is enough for every record: refusal 15 is never met with it.
 -- 19, which is a section's of `lower_all`, is never met at all. Read `longest`, `enough` and `never-19` at the end first.
 -- Assumes nothing.
+use Rattle.std.specs.Prelude.{Option, Some, None, Ok, Err}
+use Rattle.definitions.specs.Refusals.{Verdict, keyword_name, too_many, duplicate_name, unknown_name, out_of_range, large, ragged, misstated, no_target, bad_number, bad_decl, is_target, refuse_if, verdict}
 use mathlib.Core.Bool.{Bool, true, false, ◌||◌}
 use mathlib.Core.List.{List, [], ◌∷◌, ◌++◌}
 use mathlib.Core.Path.{◌≡◌, refl, subst}
@@ -13,18 +15,15 @@ use borrow.Author.Tests.{ltb-false, le-leb}
 use Rattle.definitions.specs.Bytes.{Text, pick, any}
 use Rattle.definitions.specs.Record.{Declaration, RecordRead, record_is, no_record, read_record}
 use Rattle.definitions.specs.Sizes.{Row, Schema, reference, any_reference, padding_bits, padded_by, annotate_decl, annotate_from, new_schema}
-use Rattle.definitions.specs.Refusals.{keyword_name, too_many, duplicate_name, unknown_name, out_of_range, large, ragged, misstated, no_target, bad_number, bad_decl, is_target, refuse_if, verdict}
 use Rattle.definitions.specs.Lines.{render}
 use Rattle.definitions.specs.Blocks.{Block, program}
 use Rattle.definitions.specs.FieldParser.{Outcome, refused, accepted}
 use Rattle.definitions.specs.Answer.{setting_of, lower_target, lower_in, lower_record, answer_read, wrong_length, answer, Lowered, turned_back, fitted, lowered, lower}
-use Rattle.definitions.specs.declared.MaybeNumber.{MaybeNumber}
 use Rattle.definitions.specs.declared.Head.{Head}
 use Rattle.definitions.specs.declared.Field.{Field}
 use Rattle.definitions.specs.declared.Reference.{Reference}
 use Rattle.definitions.specs.declared.ElementSize.{ElementSize}
 use Rattle.definitions.specs.declared.Refusal.{Refusal}
-use Rattle.definitions.specs.declared.Verdict.{Verdict}
 use Rattle.lengths.specs.Shares.{most_bytes, plain_field, bit_field, modifier_line, shape, padded_bytes, share_by, shares, is_element_size, most_of}
 use Rattle.lengths.proofs.Booleans.{impossible, neither, refuse-next}
 use Rattle.lengths.proofs.Names.{FieldsAre, DeclarationsAre, RecordOk, ShortName, names-short}
@@ -35,20 +34,20 @@ use Rattle.lengths.proofs.Fields.{AllPlain, lower-fits}
 
 module _ (m : ℕ) (h : plain_field ≤ m) where
   -- a field's own share, and what it adds to the array before it
-  one-most : (p : MaybeNumber) (r : Reference) → padded_bytes p + share_by m p r ≤ m
-  one-most (MaybeNumber.Some bits) r = omega arith
-  one-most MaybeNumber.None Reference.None = omega arith
-  one-most MaybeNumber.None (Reference.Size of width) = omega arith
-  one-most MaybeNumber.None (Reference.Count of) = omega arith
-  one-most MaybeNumber.None (Reference.ElementSize of) = omega arith
+  one-most : (p : Option ℕ) (r : Option Reference) → padded_bytes p + share_by m p r ≤ m
+  one-most (Some bits) r = omega arith
+  one-most None None = omega arith
+  one-most None (Some (Reference.Size of width)) = omega arith
+  one-most None (Some (Reference.Count of)) = omega arith
+  one-most None (Some (Reference.ElementSize of)) = omega arith
 
   -- less, where it is an element size field
-  one-given : (p : MaybeNumber) (r : Reference) → is_element_size r ≡ true → padded_bytes p + share_by m p r ≤ bit_field
-  one-given (MaybeNumber.Some bits) r e = omega arith
-  one-given MaybeNumber.None Reference.None e = impossible (cc)
-  one-given MaybeNumber.None (Reference.Size of width) e = impossible (cc)
-  one-given MaybeNumber.None (Reference.Count of) e = impossible (cc)
-  one-given MaybeNumber.None (Reference.ElementSize of) e = omega arith
+  one-given : (p : Option ℕ) (r : Option Reference) → is_element_size r ≡ true → padded_bytes p + share_by m p r ≤ bit_field
+  one-given (Some bits) r e = omega arith
+  one-given None None e = impossible (cc)
+  one-given None (Some (Reference.Size of width)) e = impossible (cc)
+  one-given None (Some (Reference.Count of)) e = impossible (cc)
+  one-given None (Some (Reference.ElementSize of)) e = omega arith
 
   shares-most : (xs : List Field) → padded_bytes (padded_by xs) + shares m xs ≤ m * length xs
   unfolding shares
@@ -125,8 +124,8 @@ module _ (s : Text) (h : Head) where
   -- ---- refusals 16 and 3 to 9
 
   abbrev VerdictFits : Verdict → Type 0
-  VerdictFits (Verdict.Refuse why) = Own why
-  VerdictFits Verdict.Pass = Unit {0}
+  VerdictFits (Err why) = Own why
+  VerdictFits (Ok tt) = Unit {0}
 
   refuses-own : (b : Bool) (why : Refusal) (next : Verdict) → Own why → VerdictFits next → VerdictFits (refuse_if b why next)
   refuses-own true why next j k = j
@@ -143,9 +142,9 @@ module _ (s : Text) (h : Head) where
       (refuses-own (large schema) Refusal.TooLarge _ refl
       (refuses-own (ragged s schema) Refusal.NotWholeBytes _ refl
       (refuses-own (misstated schema) Refusal.Misstated _ refl
-      (refuses-own (no_target s h schema) Refusal.NoTarget Verdict.Pass refl tt))))))))
+      (refuses-own (no_target s h schema) Refusal.NoTarget (Ok tt) refl tt))))))))
 
-  passes : (ds : List Declaration) (schema : Schema) → verdict s h ds schema ≡ Verdict.Pass → (too_many ds ≡ false) × (out_of_range ds ≡ false)
+  passes : (ds : List Declaration) (schema : Schema) → verdict s h ds schema ≡ (Ok tt) → (too_many ds ≡ false) × (out_of_range ds ≡ false)
   unfolding verdict
   passes ds schema e =
       let free = refuse-next (keyword_name s h ds) Refusal.Keyword _ e in
@@ -160,9 +159,9 @@ module _ (s : Text) (h : Head) where
   record-fits ds names = by (verdict s h ds (new_schema s ds)) refl (verdict-fits ds (new_schema s ds))
     where
       by : (v : Verdict) → verdict s h ds (new_schema s ds) ≡ v → VerdictFits v
-          → OutcomeFits most_bytes (elim v [ Verdict.Pass ↦ lower_in s h (new_schema s ds) | Verdict.Refuse why ↦ refused why ])
-      by (Verdict.Refuse why) e k = k
-      by Verdict.Pass e k =
+          → OutcomeFits most_bytes (elim v [ (Ok tt) ↦ lower_in s h (new_schema s ds) | Err why ↦ refused why ])
+      by (Err why) e k = k
+      by (Ok tt) e k =
           let p = passes ds (new_schema s ds) e in
           lower-in-fits [] ds names (neither (ltb 32 (length ds)) (any many ds) p.0).1 p.1
 

@@ -1,5 +1,7 @@
 -- Every name of a record that can be read has at most 32 bytes: from the record reader, name by name.
 -- Assumes nothing.
+use Rattle.std.specs.Prelude.{Option, Some, None}
+use Rattle.definitions.specs.Record.{Read, key_of, key_at, part_of, word_of, name_of, is_forbidden, name_at, on_found, on_read, on_fields, number_line, name_line, maybe_number_line, maybe_name_at, maybe_name_line, modifier_line, named_width, scalar_at, size_at, count_at, element_size_at, fixed_scalar_at, fixed_enum_at, reserved_at, flag_at, typedef_at, one_array, array_rest, array_at, payload_at, padding_at, checksum_at, Kinds, choose, kinds, desc_at, cond_at, field_at, head_at, decl_at, Declaration, Fields, fields_are, no_fields, Declarations, declarations_are, no_declarations, RecordRead, record_is, no_record, with_field, fields_at, fields_behind, with_declaration, declarations_at, with_head, read_record}
 use mathlib.Core.Bool.{Bool, true, false}
 use mathlib.Core.List.{List, [], ◌∷◌}
 use mathlib.Core.Path.{◌≡◌, refl}
@@ -10,28 +12,14 @@ use lib.Dec.{ltb, eqb}
 use lib.ListN.{length, drop, length-take}
 use borrow.Author.Tests.{eqb-false}
 use Rattle.definitions.specs.Bytes.{Text, text, part, is_digit, is_word}
-use Rattle.definitions.specs.Record.{key_of, key_at, part_of, word_of, name_of, is_forbidden, name_at, on_found, on_number, on_name, on_modifier, on_maybe_number, on_maybe_part, on_part, on_desc, on_cond, on_field, on_head, on_decl, on_fields, number_line, name_line, maybe_number_line, maybe_name_at, maybe_name_line, modifier_line, named_width, scalar_at, size_at, count_at, element_size_at, fixed_scalar_at, fixed_enum_at, reserved_at, flag_at, typedef_at, one_array, array_rest, array_at, payload_at, padding_at, checksum_at, Kinds, choose, kinds, desc_at, cond_at, field_at, head_at, decl_at, Declaration, Fields, fields_are, no_fields, Declarations, declarations_are, no_declarations, RecordRead, record_is, no_record, with_field, fields_at, fields_behind, with_declaration, declarations_at, with_head, read_record}
 use Rattle.definitions.specs.declared.Part.{Part}
-use Rattle.definitions.specs.declared.MaybePart.{MaybePart}
-use Rattle.definitions.specs.declared.MaybeNumber.{MaybeNumber}
 use Rattle.definitions.specs.declared.Modifier.{Modifier}
 use Rattle.definitions.specs.declared.Head.{Head}
 use Rattle.definitions.specs.declared.FieldDesc.{FieldDesc}
-use Rattle.definitions.specs.declared.Cond.{Cond}
+use Rattle.definitions.specs.declared.Condition.{Condition}
 use Rattle.definitions.specs.declared.Field.{Field}
 use Rattle.definitions.specs.declared.DeclDesc.{DeclDesc}
 use Rattle.definitions.specs.declared.Decl.{Decl}
-use Rattle.definitions.specs.declared.Found.{Found}
-use Rattle.definitions.specs.declared.NumberRead.{NumberRead}
-use Rattle.definitions.specs.declared.NameRead.{NameRead}
-use Rattle.definitions.specs.declared.ModifierRead.{ModifierRead}
-use Rattle.definitions.specs.declared.MaybeNumberRead.{MaybeNumberRead}
-use Rattle.definitions.specs.declared.MaybePartRead.{MaybePartRead}
-use Rattle.definitions.specs.declared.DescRead.{DescRead}
-use Rattle.definitions.specs.declared.CondRead.{CondRead}
-use Rattle.definitions.specs.declared.FieldRead.{FieldRead}
-use Rattle.definitions.specs.declared.HeadRead.{HeadRead}
-use Rattle.definitions.specs.declared.DeclRead.{DeclRead}
 
 -- a pair, and so pairs in pairs
 ◌&◌ : {A B : Type 0} → A → B → A × B
@@ -41,13 +29,13 @@ infixr 20 ◌&◌
 -- ---- what holds of the names of a field holds of those of the record
 
 module _ (P : Part → Type 0) where
-  abbrev pub NameIs : NameRead → Type 0
-  NameIs NameRead.Wrong = Unit {0}
-  NameIs (NameRead.Is n p) = P n
+  abbrev pub NameIs : Read Part → Type 0
+  NameIs None = Unit {0}
+  NameIs (Some (n, p)) = P n
 
-  abbrev pub MaybeIs : MaybePart → Type 0
-  MaybeIs MaybePart.None = Unit {0}
-  MaybeIs (MaybePart.Some n) = P n
+  abbrev pub MaybeIs : Option Part → Type 0
+  MaybeIs None = Unit {0}
+  MaybeIs (Some n) = P n
 
   abbrev pub DescIs : FieldDesc → Type 0
   DescIs (FieldDesc.Checksum of) = P of
@@ -65,9 +53,9 @@ module _ (P : Part → Type 0) where
   DescIs (FieldDesc.Flag id) = P id
   DescIs (FieldDesc.Typedef id type) = P id × P type
 
-  abbrev pub CondIs : Cond → Type 0
-  CondIs Cond.None = Unit {0}
-  CondIs (Cond.Some id value) = P id
+  abbrev pub CondIs : Option Condition → Type 0
+  CondIs None = Unit {0}
+  CondIs (Some cond) = P cond.id
 
   abbrev pub FieldIs : Field → Type 0
   FieldIs f = DescIs f.desc × CondIs f.cond
@@ -82,21 +70,21 @@ module _ (P : Part → Type 0) where
 
   -- the answers of the readers
 
-  abbrev MaybeRead : MaybePartRead → Type 0
-  MaybeRead MaybePartRead.Wrong = Unit {0}
-  MaybeRead (MaybePartRead.Is n p) = MaybeIs n
+  abbrev MaybeRead : Read (Option Part) → Type 0
+  MaybeRead None = Unit {0}
+  MaybeRead (Some (n, p)) = MaybeIs n
 
-  abbrev DescOk : DescRead → Type 0
-  DescOk DescRead.Wrong = Unit {0}
-  DescOk (DescRead.Is d p) = DescIs d
+  abbrev DescOk : Read FieldDesc → Type 0
+  DescOk None = Unit {0}
+  DescOk (Some (d, p)) = DescIs d
 
-  abbrev CondOk : CondRead → Type 0
-  CondOk CondRead.Wrong = Unit {0}
-  CondOk (CondRead.Is c p) = CondIs c
+  abbrev CondOk : Read (Option Condition) → Type 0
+  CondOk None = Unit {0}
+  CondOk (Some (c, p)) = CondIs c
 
-  abbrev FieldOk : FieldRead → Type 0
-  FieldOk FieldRead.Wrong = Unit {0}
-  FieldOk (FieldRead.Is f p) = FieldIs f
+  abbrev FieldOk : Read Field → Type 0
+  FieldOk None = Unit {0}
+  FieldOk (Some (f, p)) = FieldIs f
 
   abbrev FieldsOk : Fields → Type 0
   FieldsOk no_fields = Unit {0}
@@ -112,50 +100,50 @@ module _ (P : Part → Type 0) where
 
   -- on from an answer: where nothing was read, `bad` is as asked
   module _ {A : Type 0} (Q : A → Type 0) (bad : A) (b : Q bad) where
-    on-found : (r : Found) (f : ℕ → A) → ((p : ℕ) → Q (f p)) → Q (on_found r bad f)
-    on-found (Found.At p) f h = h p
-    on-found Found.Nothing f h = b
+    on-found : (r : Option ℕ) (f : ℕ → A) → ((p : ℕ) → Q (f p)) → Q (on_found r bad f)
+    on-found (Some p) f h = h p
+    on-found None f h = b
 
-    on-number : (r : NumberRead) (f : ℕ → ℕ → A) → ((n p : ℕ) → Q (f n p)) → Q (on_number r bad f)
-    on-number (NumberRead.Is n p) f h = h n p
-    on-number NumberRead.Wrong f h = b
+    on-number : (r : Read ℕ) (f : ℕ → ℕ → A) → ((n p : ℕ) → Q (f n p)) → Q (on_read r bad f)
+    on-number (Some (n, p)) f h = h n p
+    on-number None f h = b
 
-    on-name : (r : NameRead) (f : Part → ℕ → A) → NameIs r → ((n : Part) (p : ℕ) → P n → Q (f n p)) → Q (on_name r bad f)
-    on-name (NameRead.Is n p) f k h = h n p k
-    on-name NameRead.Wrong f k h = b
+    on-name : (r : Read Part) (f : Part → ℕ → A) → NameIs r → ((n : Part) (p : ℕ) → P n → Q (f n p)) → Q (on_read r bad f)
+    on-name (Some (n, p)) f k h = h n p k
+    on-name None f k h = b
 
-    on-modifier : (r : ModifierRead) (f : Modifier → ℕ → A) → ((n : Modifier) (p : ℕ) → Q (f n p)) → Q (on_modifier r bad f)
-    on-modifier (ModifierRead.Is n p) f h = h n p
-    on-modifier ModifierRead.Wrong f h = b
+    on-modifier : (r : Read Modifier) (f : Modifier → ℕ → A) → ((n : Modifier) (p : ℕ) → Q (f n p)) → Q (on_read r bad f)
+    on-modifier (Some (n, p)) f h = h n p
+    on-modifier None f h = b
 
-    on-maybe_number : (r : MaybeNumberRead) (f : MaybeNumber → ℕ → A) → ((n : MaybeNumber) (p : ℕ) → Q (f n p)) → Q (on_maybe_number r bad f)
-    on-maybe_number (MaybeNumberRead.Is n p) f h = h n p
-    on-maybe_number MaybeNumberRead.Wrong f h = b
+    on-maybe_number : (r : Read (Option ℕ)) (f : Option ℕ → ℕ → A) → ((n : Option ℕ) (p : ℕ) → Q (f n p)) → Q (on_read r bad f)
+    on-maybe_number (Some (n, p)) f h = h n p
+    on-maybe_number None f h = b
 
-    on-maybe_part : (r : MaybePartRead) (f : MaybePart → ℕ → A) → MaybeRead r → ((n : MaybePart) (p : ℕ) → MaybeIs n → Q (f n p)) → Q (on_maybe_part r bad f)
-    on-maybe_part (MaybePartRead.Is n p) f k h = h n p k
-    on-maybe_part MaybePartRead.Wrong f k h = b
+    on-maybe_part : (r : Read (Option Part)) (f : Option Part → ℕ → A) → MaybeRead r → ((n : Option Part) (p : ℕ) → MaybeIs n → Q (f n p)) → Q (on_read r bad f)
+    on-maybe_part (Some (n, p)) f k h = h n p k
+    on-maybe_part None f k h = b
 
   module _ (s : Text) (name : (at : ℕ) → NameIs (name_at s at)) where
     name-line : (at : ℕ) (key : Text) → NameIs (name_line s at key)
     unfolding name_line
-    name-line at key = on-found NameIs NameRead.Wrong tt (key_at s at key) _ (λ p. name p)
+    name-line at key = on-found NameIs None tt (key_at s at key) _ (λ p. name p)
 
     maybe-line : (at : ℕ) (key : Text) → MaybeRead (maybe_name_line s at key)
     unfolding maybe_name_line
-    maybe-line at key = on-found MaybeRead MaybePartRead.Wrong tt (key_at s at key) _ there
+    maybe-line at key = on-found MaybeRead None tt (key_at s at key) _ there
       where
         there : (p : ℕ) → MaybeRead (maybe_name_at s p)
         there p =
             on-found MaybeRead _
-            (on-name MaybeRead MaybePartRead.Wrong tt (name_at s p) (λ n q. MaybePartRead.Is (MaybePart.Some n) q) (name p) (λ n q k. k))
-            (key_at s p (text "-\n")) (λ q. MaybePartRead.Is MaybePart.None q) (λ q. tt)
+            (on-name MaybeRead None tt (name_at s p) (λ n q. Some (Some n, q)) (name p) (λ n q k. k))
+            (key_at s p (text "-\n")) (λ q. Some (None, q)) (λ q. tt)
 
     -- a name under a key, and a number under another
     named-width : (at : ℕ) (key : Text) (desc : Part → ℕ → FieldDesc) → ((n : Part) (w : ℕ) → P n → DescIs (desc n w)) → DescOk (named_width key desc s at)
     named-width at key desc h =
-        on-name DescOk DescRead.Wrong tt (name_line s at key) _ (name-line at key)
-        (λ n p k. on-number DescOk DescRead.Wrong tt (number_line s p (text "width=")) _ (λ w q. h n w k))
+        on-name DescOk None tt (name_line s at key) _ (name-line at key)
+        (λ n p k. on-number DescOk None tt (number_line s p (text "width=")) _ (λ w q. h n w k))
 
     scalar-ok : (at : ℕ) → DescOk (scalar_at s at)
     unfolding scalar_at
@@ -176,15 +164,15 @@ module _ (P : Part → Type 0) where
     fixed_scalar-ok : (at : ℕ) → DescOk (fixed_scalar_at s at)
     unfolding fixed_scalar_at
     fixed_scalar-ok at =
-        on-number DescOk DescRead.Wrong tt (number_line s at (text "width=")) _
-        (λ w p. on-number DescOk DescRead.Wrong tt (number_line s p (text "value=")) _ (λ n q. tt))
+        on-number DescOk None tt (number_line s at (text "width=")) _
+        (λ w p. on-number DescOk None tt (number_line s p (text "value=")) _ (λ n q. tt))
 
     -- two names under two keys
     named-twice : (at : ℕ) (key next : Text) (desc : Part → Part → FieldDesc) → ((m n : Part) → P m → P n → DescIs (desc m n))
-        → DescOk (on_name (name_line s at key) DescRead.Wrong λ m p. on_name (name_line s p next) DescRead.Wrong λ n q. DescRead.Is (desc m n) q)
+        → DescOk (on_read (name_line s at key) None λ m p. on_read (name_line s p next) None λ n q. Some (desc m n, q))
     named-twice at key next desc h =
-        on-name DescOk DescRead.Wrong tt (name_line s at key) _ (name-line at key)
-        (λ m p j. on-name DescOk DescRead.Wrong tt (name_line s p next) _ (name-line p next) (λ n q k. h m n j k))
+        on-name DescOk None tt (name_line s at key) _ (name-line at key)
+        (λ m p j. on-name DescOk None tt (name_line s p next) _ (name-line p next) (λ n q k. h m n j k))
 
     fixed_enum-ok : (at : ℕ) → DescOk (fixed_enum_at s at)
     unfolding fixed_enum_at
@@ -196,41 +184,41 @@ module _ (P : Part → Type 0) where
 
     reserved-ok : (at : ℕ) → DescOk (reserved_at s at)
     unfolding reserved_at
-    reserved-ok at = on-number DescOk DescRead.Wrong tt (number_line s at (text "width=")) _ (λ w p. tt)
+    reserved-ok at = on-number DescOk None tt (number_line s at (text "width=")) _ (λ w p. tt)
 
     flag_ok : (at : ℕ) → DescOk (flag_at s at)
     unfolding flag_at
-    flag_ok at = on-name DescOk DescRead.Wrong tt (name_line s at (text "id=")) _ (name-line at (text "id=")) (λ n p k. k)
+    flag_ok at = on-name DescOk None tt (name_line s at (text "id=")) _ (name-line at (text "id=")) (λ n p k. k)
 
     checksum-ok : (at : ℕ) → DescOk (checksum_at s at)
     unfolding checksum_at
-    checksum-ok at = on-name DescOk DescRead.Wrong tt (name_line s at (text "of=")) _ (name-line at (text "of=")) (λ n p k. k)
+    checksum-ok at = on-name DescOk None tt (name_line s at (text "of=")) _ (name-line at (text "of=")) (λ n p k. k)
 
     payload-ok : (at : ℕ) → DescOk (payload_at s at)
     unfolding payload_at
-    payload-ok at = on-modifier DescOk DescRead.Wrong tt (modifier_line s at (text "mod=")) _ (λ m p. tt)
+    payload-ok at = on-modifier DescOk None tt (modifier_line s at (text "mod=")) _ (λ m p. tt)
 
     padding-ok : (at : ℕ) → DescOk (padding_at s at)
     unfolding padding_at
-    padding-ok at = on-number DescOk DescRead.Wrong tt (number_line s at (text "bytes=")) _ (λ n p. tt)
+    padding-ok at = on-number DescOk None tt (number_line s at (text "bytes=")) _ (λ n p. tt)
 
-    one_ok : (id : Part) (w : MaybeNumber) (t : MaybePart) (m : Modifier) (c : MaybeNumber) (p : ℕ) → P id → MaybeIs t → DescOk (one_array id w t m c p)
-    one_ok id MaybeNumber.None MaybePart.None m c p j k = tt
-    one_ok id MaybeNumber.None (MaybePart.Some t) m c p j k = (j, k)
-    one_ok id (MaybeNumber.Some w) MaybePart.None m c p j k = (j, k)
-    one_ok id (MaybeNumber.Some w) (MaybePart.Some t) m c p j k = tt
+    one_ok : (id : Part) (w : Option ℕ) (t : Option Part) (m : Modifier) (c : Option ℕ) (p : ℕ) → P id → MaybeIs t → DescOk (one_array id w t m c p)
+    one_ok id None None m c p j k = tt
+    one_ok id None (Some t) m c p j k = (j, k)
+    one_ok id (Some w) None m c p j k = (j, k)
+    one_ok id (Some w) (Some t) m c p j k = tt
 
     array_ok : (at : ℕ) → DescOk (array_at s at)
     unfolding array_at array_rest
     array_ok at =
-        on-name DescOk DescRead.Wrong tt (name_line s at (text "id=")) _ (name-line at (text "id="))
+        on-name DescOk None tt (name_line s at (text "id=")) _ (name-line at (text "id="))
         (λ id p j.
-        on-maybe_number DescOk DescRead.Wrong tt (maybe_number_line s p (text "width=")) _
+        on-maybe_number DescOk None tt (maybe_number_line s p (text "width=")) _
         (λ w q.
-        on-maybe_part DescOk DescRead.Wrong tt (maybe_name_line s q (text "type=")) _ (maybe-line q (text "type="))
+        on-maybe_part DescOk None tt (maybe_name_line s q (text "type=")) _ (maybe-line q (text "type="))
         (λ t r k.
-        on-modifier DescOk DescRead.Wrong tt (modifier_line s r (text "mod=")) _
-        (λ m u. on-maybe_number DescOk DescRead.Wrong tt (maybe_number_line s u (text "count=")) _ (λ c v. one_ok id w t m c v j k)))))
+        on-modifier DescOk None tt (modifier_line s r (text "mod=")) _
+        (λ m u. on-maybe_number DescOk None tt (maybe_number_line s u (text "count=")) _ (λ c v. one_ok id w t m c v j k)))))
 
     -- each reader of the table
     abbrev AllOk : Kinds → Type 0
@@ -250,28 +238,28 @@ module _ (P : Part → Type 0) where
 
     cond-ok : (at : ℕ) → CondOk (cond_at s at)
     unfolding cond_at
-    cond-ok at = on-maybe_part CondOk CondRead.Wrong tt (maybe_name_line s at (text "if=")) _ (maybe-line at (text "if=")) by
+    cond-ok at = on-maybe_part CondOk None tt (maybe_name_line s at (text "if=")) _ (maybe-line at (text "if=")) by
       where
-        by : (n : MaybePart) (p : ℕ) → MaybeIs n
-            → CondOk (on_part n (CondRead.Is Cond.None p) λ id.
-            on_number (number_line s p (text "is=")) CondRead.Wrong λ value q. CondRead.Is (Cond.Some id value) q)
-        by MaybePart.None p k = tt
-        by (MaybePart.Some id) p k = on-number CondOk CondRead.Wrong tt (number_line s p (text "is=")) _ (λ v q. k)
+        by : (n : Option Part) (p : ℕ) → MaybeIs n
+            → CondOk (on_found n (Some (None, p)) λ id.
+            on_read (number_line s p (text "is=")) None λ value q. Some (Some (record { id = id; value = value }), q))
+        by None p k = tt
+        by (Some id) p k = on-number CondOk None tt (number_line s p (text "is=")) _ (λ v q. k)
 
     field-ok : (at : ℕ) → FieldOk (field_at s at)
     unfolding field_at
     field-ok at = desc (desc_at s at) (desc-ok at)
       where
-        is : FieldDesc → Cond → ℕ → FieldRead
-        is d c q = FieldRead.Is (record { key = at; desc = d; cond = c }) q
+        is : FieldDesc → Option Condition → ℕ → Read Field
+        is d c q = Some (record { key = at; desc = d; cond = c }, q)
 
-        cond : (d : FieldDesc) → DescIs d → (r : CondRead) → CondOk r → FieldOk (on_cond r FieldRead.Wrong (is d))
-        cond d h CondRead.Wrong k = tt
-        cond d h (CondRead.Is c q) k = (h, k)
+        cond : (d : FieldDesc) → DescIs d → (r : Read (Option Condition)) → CondOk r → FieldOk (on_read r None (is d))
+        cond d h None k = tt
+        cond d h (Some (c, q)) k = (h, k)
 
-        desc : (r : DescRead) → DescOk r → FieldOk (on_desc r FieldRead.Wrong λ d p. on_cond (cond_at s p) FieldRead.Wrong (is d))
-        desc DescRead.Wrong h = tt
-        desc (DescRead.Is d p) h = cond d h (cond_at s p) (cond-ok p)
+        desc : (r : Read FieldDesc) → DescOk r → FieldOk (on_read r None λ d p. on_read (cond_at s p) None (is d))
+        desc None h = tt
+        desc (Some (d, p)) h = cond d h (cond_at s p) (cond-ok p)
 
     with-field : (x : Field) (r : Fields) → FieldIs x → FieldsOk r → FieldsOk (with_field x r)
     with-field x (fields_are xs p) h k = (h, k)
@@ -283,9 +271,9 @@ module _ (P : Part → Type 0) where
     fields-ok (suc fuel) at =
         on-found FieldsOk (fields_are [] at) tt (key_at s at (text "field=")) _ (λ p. by (λ q. fields-ok fuel q) (field_at s at) (field-ok at))
       where
-        by : ((q : ℕ) → FieldsOk (fields_at s fuel q)) → (r : FieldRead) → FieldOk r → FieldsOk (on_field r no_fields λ x q. with_field x (fields_at s fuel q))
-        by more FieldRead.Wrong h = tt
-        by more (FieldRead.Is x q) h = with-field x (fields_at s fuel q) h (more q)
+        by : ((q : ℕ) → FieldsOk (fields_at s fuel q)) → (r : Read Field) → FieldOk r → FieldsOk (on_read r no_fields λ x q. with_field x (fields_at s fuel q))
+        by more None h = tt
+        by more (Some (x, q)) h = with-field x (fields_at s fuel q) h (more q)
 
     behind-ok : (d : DeclDesc) (at : ℕ) → FieldsOk (fields_behind s d at)
     unfolding fields_behind
@@ -317,11 +305,11 @@ module _ (P : Part → Type 0) where
         fields more d no_fields h = tt
         fields more d (fields_are xs q) h = with-declaration (record { decl = d; fields = xs }) (later q) h (end more q (ltb q (length s)))
 
-        decl : ((q : ℕ) → DeclarationsOk (declarations_at s fuel q)) → (r : DeclRead)
-            → DeclarationsOk (on_decl r no_declarations λ d p.
+        decl : ((q : ℕ) → DeclarationsOk (declarations_at s fuel q)) → (r : Read Decl)
+            → DeclarationsOk (on_read r no_declarations λ d p.
             on_fields (fields_behind s d.desc p) no_declarations λ xs q. with_declaration (record { decl = d; fields = xs }) (later q))
-        decl more DeclRead.Wrong = tt
-        decl more (DeclRead.Is d p) = fields more d (fields_behind s d.desc p) (behind-ok d.desc p)
+        decl more None = tt
+        decl more (Some (d, p)) = fields more d (fields_behind s d.desc p) (behind-ok d.desc p)
 
     pub record-ok : RecordOk (read_record s)
     unfolding read_record
@@ -331,9 +319,9 @@ module _ (P : Part → Type 0) where
         with-head h (declarations_are ds) k = k
         with-head h no_declarations k = tt
 
-        by : (r : HeadRead) → RecordOk (on_head r no_record λ h p. with_head h (declarations_at s (length s) p))
-        by HeadRead.Wrong = tt
-        by (HeadRead.Is h p) = with-head h (declarations_at s (length s) p) (declarations-ok (length s) p)
+        by : (r : Read Head) → RecordOk (on_read r no_record λ h p. with_head h (declarations_at s (length s) p))
+        by None = tt
+        by (Some (h, p)) = with-head h (declarations_at s (length s) p) (declarations-ok (length s) p)
 
 -- ---- a name's bytes
 
@@ -351,10 +339,10 @@ word-short s (x ∷ r) start k at e h = by (λ g. word-short s r start (k + 1) (
   where
     by : (k + 1 ≤ 32 → NameIs (ShortName s) (word_of r start (k + 1) (at + 1))) → (b c : Bool) → eqb k 32 ≡ c → (d : Bool)
         → NameIs (ShortName s) (elim b [
-          | true ↦ NameRead.Is (part_of start at) (at + 1)
+          | true ↦ Some (part_of start at, at + 1)
           | false ↦ elim c [
-            | true ↦ NameRead.Wrong
-            | false ↦ elim d [ true ↦ word_of r start (k + 1) (at + 1) | false ↦ NameRead.Wrong ]
+            | true ↦ None
+            | false ↦ elim d [ true ↦ word_of r start (k + 1) (at + 1) | false ↦ None ]
           ]
         ])
     by more true c f d = part-short s (part_of start at) (omega (arith, e, h))
@@ -374,12 +362,12 @@ name-short s at = by (is_forbidden s at)
     word (x ∷ r) = first (is_digit x) (eqb x 10)
       where
         first : (b c : Bool)
-            → NameIs (ShortName s) (elim b [ true ↦ NameRead.Wrong | false ↦ elim c [ true ↦ NameRead.Wrong | false ↦ word_of (x ∷ r) at 0 at ] ])
+            → NameIs (ShortName s) (elim b [ true ↦ None | false ↦ elim c [ true ↦ None | false ↦ word_of (x ∷ r) at 0 at ] ])
         first true c = tt
         first false true = tt
         first false false = word-short s (x ∷ r) at 0 at (omega arith) (omega arith)
 
-    by : (b : Bool) → NameIs (ShortName s) (elim b [ true ↦ NameRead.Wrong | false ↦ name_of (drop at s) at ])
+    by : (b : Bool) → NameIs (ShortName s) (elim b [ true ↦ None | false ↦ name_of (drop at s) at ])
     by true = tt
     by false = word (drop at s)
 

@@ -1,10 +1,9 @@
 -- How many bytes of lines each field of the target gives at most, its share, and how many all of them give: 1,024 for each of 64 fields. An array of
 -- Dynamic element size gives 8 more, but then there is an element size field, which gives half as many.
 -- Assumes nothing.
-use Rattle.std.specs.Prelude.{Bool, true, false, List, [], ◌∷◌, ℕ, ◌+◌}
+use Rattle.std.specs.Prelude.{Option, Some, None, Bool, true, false, List, [], ◌∷◌, ℕ, ◌+◌}
 use Rattle.definitions.specs.Bytes.{pick}
 use Rattle.definitions.specs.Sizes.{reference, any_reference, padding_bits, padded_by}
-use Rattle.definitions.specs.declared.MaybeNumber.{MaybeNumber}
 use Rattle.definitions.specs.declared.FieldDesc.{FieldDesc}
 use Rattle.definitions.specs.declared.Field.{Field}
 use Rattle.definitions.specs.declared.Reference.{Reference}
@@ -47,18 +46,18 @@ shape ElementSize.Unknown = 918
 abbrev pub padding : ℕ
 padding = 507
 
-abbrev pub padded_bytes : MaybeNumber → ℕ
-padded_bytes MaybeNumber.None = 0
-padded_bytes (MaybeNumber.Some bits) = padding
+abbrev pub padded_bytes : Option ℕ → ℕ
+padded_bytes None = 0
+padded_bytes (Some bits) = padding
 
 -- ---- all fields of the target: m is the share of a field that is neither a padding nor an element size field
 
-abbrev pub share_by : ℕ → MaybeNumber → Reference → ℕ
-share_by m (MaybeNumber.Some bits) r = 0
-share_by m MaybeNumber.None Reference.None = m
-share_by m MaybeNumber.None (Reference.Size of width) = m
-share_by m MaybeNumber.None (Reference.Count of) = m
-share_by m MaybeNumber.None (Reference.ElementSize of) = bit_field
+abbrev pub share_by : ℕ → Option ℕ → Option Reference → ℕ
+share_by m (Some bits) r = 0
+share_by m None None = m
+share_by m None (Some (Reference.Size of width)) = m
+share_by m None (Some (Reference.Count of)) = m
+share_by m None (Some (Reference.ElementSize of)) = bit_field
 
 abbrev pub share : ℕ → FieldDesc → ℕ
 share m d = share_by m (padding_bits d) (reference d)
@@ -67,11 +66,11 @@ unfoldable pub shares : ℕ → List Field → ℕ
 shares m [] = 0
 shares m (f ∷ later) = share m f.desc + padded_bytes (padded_by later) + shares m later
 
-abbrev pub is_element_size : Reference → Bool
-is_element_size Reference.None = false
-is_element_size (Reference.Size of width) = false
-is_element_size (Reference.Count of) = false
-is_element_size (Reference.ElementSize of) = true
+abbrev pub is_element_size : Option Reference → Bool
+is_element_size None = false
+is_element_size (Some (Reference.Size of width)) = false
+is_element_size (Some (Reference.Count of)) = false
+is_element_size (Some (Reference.ElementSize of)) = true
 
 -- only where there is an element size field, there are arrays of Dynamic element size
 unfoldable pub most_of : List Field → ℕ

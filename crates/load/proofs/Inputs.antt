@@ -1,4 +1,5 @@
 -- An input of the program `load` that asks for records has at most 17 bytes: ten digits, five digits and two newlines. Assumes nothing.
+use Rattle.definitions.specs.Record.{Read, digits_of, number_of, number_at, on_read}
 use Rattle.std.proofs.Common.{◌≡◌, ℕ, ◌+◌, ◌*◌, ◌-◌, ◌^◌, ◌<◌, ◌≤◌, ◌==◌, List, [], ◌∷◌, length, drop, Option, None, Some, IfSome, Bool, true, false, zero, suc, nat_lt, inl, inr, arith, refl, sym, ap, ◌∙◌, subst}
 use Rattle.std.proofs.lemmas.List.{length-append}
 use Rattle.std.proofs.lemmas.Bool.{and_parts, ltb-true, leb-true, eqb-true}
@@ -8,10 +9,8 @@ use Rattle.std.proofs.Math.Numerals.{add-one}
 use Rattle.std.proofs.KnownBytes.{Appends-nil}
 use Rattle.std.specs.Io.KnownBytes.{Consumes, Appends}
 use Rattle.definitions.specs.Bytes.{Text, is_digit}
-use Rattle.definitions.specs.Record.{digits_of, number_of, number_at, on_number}
-use Rattle.definitions.specs.declared.NumberRead.{NumberRead}
 use Rattle.grammar.specs.Load.{in_range, asked_by, printed, load_for}
-use Rattle.grammar.specs.declared.Asked.{Asked}
+use Rattle.grammar.specs.declared.Load.{Load}
 
 -- 10 ^ j ≤ 10 ^ k - 1 has fewer digits
 fewer_digits : (v j k : ℕ) → 10 ^ j ≤ v → v < 10 ^ k → j < k
@@ -22,13 +21,13 @@ fewer_digits v j k h f =
     ]
 
 -- a number of at most k digits, behind `at` and j digits of it, ends in time
-abbrev Ends : ℕ → ℕ → ℕ → NumberRead → Type 0
-Ends at j k NumberRead.Wrong = Unit {0}
-Ends at j k (NumberRead.Is n q) = n < 10 ^ k → q + j ≤ at + k
+abbrev Ends : ℕ → ℕ → ℕ → Read ℕ → Type 0
+Ends at j k None = Unit {0}
+Ends at j k (Some (n, q)) = n < 10 ^ k → q + j ≤ at + k
 
-one_more : (at j k : ℕ) (r : NumberRead) → Ends (at + 1) (j + 1) k r → Ends at j k r
-one_more at j k NumberRead.Wrong h = tt
-one_more at j k (NumberRead.Is n q) h = λ f. let g = h f in omega (arith, g)
+one_more : (at j k : ℕ) (r : Read ℕ) → Ends (at + 1) (j + 1) k r → Ends at j k r
+one_more at j k None h = tt
+one_more at j k (Some (n, q)) h = λ f. let g = h f in omega (arith, g)
 
 -- the number so far has j digits and more, besides the first
 digits_end : (s : Text) (v at j k : ℕ) → 10 ^ j ≤ v → Ends at j k (digits_of s v at)
@@ -43,10 +42,10 @@ digits_end (x ∷ s) v at j k h =
         omega (arith, p, mul-le-mul_right 10 h)
 
     by : Ends (at + 1) (j + 1) k (digits_of s (v * 10 + (x - 48)) (at + 1)) → (a b c d : Bool) → Ends at j k (elim a [
-      | true ↦ NumberRead.Is v (at + 1)
+      | true ↦ Some (v, (at + 1))
       | false ↦ elim b [
-        | true ↦ elim c [ true ↦ NumberRead.Wrong | false ↦ elim d [ true ↦ digits_of s (v * 10 + (x - 48)) (at + 1) | false ↦ NumberRead.Wrong ] ]
-        | false ↦ NumberRead.Wrong
+        | true ↦ elim c [ true ↦ None | false ↦ elim d [ true ↦ digits_of s (v * 10 + (x - 48)) (at + 1) | false ↦ None ] ]
+        | false ↦ None
       ]
     ])
     by later true b c d = λ f. let g = fewer_digits v j k h f in omega (arith, g)
@@ -61,7 +60,7 @@ unfolding digits_of
 zero_ends [] at k h = tt
 zero_ends (x ∷ s) at k h = by (x == 10) (is_digit x)
   where
-    by : (a b : Bool) → Ends at 0 k (elim a [ true ↦ NumberRead.Is 0 (at + 1) | false ↦ elim b [ true ↦ NumberRead.Wrong | false ↦ NumberRead.Wrong ] ])
+    by : (a b : Bool) → Ends at 0 k (elim a [ true ↦ Some (0, (at + 1)) | false ↦ elim b [ true ↦ None | false ↦ None ] ])
     by true b = λ f. omega (arith, h)
     by false true = tt
     by false false = tt
@@ -75,20 +74,19 @@ unfolding number_of
 number_ends [] at k h = tt
 number_ends (x ∷ s) at k h = by (is_digit x)
   where
-    by : (b : Bool) → Ends (at + 1) 0 k (elim b [ true ↦ digits_of s (x - 48) (at + 1) | false ↦ NumberRead.Wrong ])
+    by : (b : Bool) → Ends (at + 1) 0 k (elim b [ true ↦ digits_of s (x - 48) (at + 1) | false ↦ None ])
     by true = from_first s (x - 48) (at + 1) k h
     by false = tt
 
 -- ten digits and five, each with a newline
-asked_long : (input : Text) → 17 < length input → asked_by input ≡ Asked.Other
-unfolding asked_by
+asked_long : (input : Text) → 17 < length input → asked_by input ≡ None
 asked_long input long = first (number_at input 0) (number_ends input 0 10 (omega arith))
   where
-    behind : ℕ → NumberRead → Asked
-    behind start r = on_number r Asked.Other λ count end. elim (in_range input start count end) [ true ↦ Asked.Load start count | false ↦ Asked.Other ]
+    behind : ℕ → Read ℕ → Option Load
+    behind start r = on_read r None λ count end. elim (in_range input start count end) [ true ↦ Some (record { start = start; count = count }) | false ↦ None ]
 
     ranged : (start count end : ℕ) (b : Bool) → in_range input start count end ≡ b → (start < 2 ^ 32 → count ≤ 65535 → end ≤ 17)
-        → elim b [ true ↦ Asked.Load start count | false ↦ Asked.Other ] ≡ Asked.Other
+        → ◌≡◌ {A = Option Load} (elim b [ true ↦ Some (record { start = start; count = count }) | false ↦ None ]) None
     ranged start count end false e h = refl
     ranged start count end true e h =
         let (a, others) = and_parts _ _ e in
@@ -96,14 +94,14 @@ asked_long input long = first (number_at input 0) (number_ends input 0 10 (omega
         let fits = h (ltb-true start (2 ^ 32) a) (leb-true count 65535 b) in
         absurd (omega (arith, long, fits, eqb-true end (length input) c))
 
-    second : (start p : ℕ) (r : NumberRead) → (start < 10 ^ 10 → p + 0 ≤ 1 + 10) → Ends (p + 1) 0 5 r → behind start r ≡ Asked.Other
-    second start p NumberRead.Wrong h g = refl
-    second start p (NumberRead.Is count end) h g =
+    second : (start p : ℕ) (r : Read ℕ) → (start < 10 ^ 10 → p + 0 ≤ 1 + 10) → Ends (p + 1) 0 5 r → behind start r ≡ None
+    second start p None h g = refl
+    second start p (Some (count, end)) h g =
         ranged start count end _ refl (λ a b. let x = h (omega (arith, a)) in let y = g (omega (arith, b)) in omega (arith, x, y))
 
-    first : (r : NumberRead) → Ends 1 0 10 r → on_number r Asked.Other (λ start p. behind start (number_at input p)) ≡ Asked.Other
-    first NumberRead.Wrong h = refl
-    first (NumberRead.Is start p) h = second start p (number_at input p) h (number_ends (drop p input) p 5 (omega arith))
+    first : (r : Read ℕ) → Ends 1 0 10 r → ◌≡◌ {A = Option Load} (on_read r None (λ start p. behind start (number_at input p))) None
+    first None h = refl
+    first (Some (start, p)) h = second start p (number_at input p) h (number_ends (drop p input) p 5 (omega arith))
 
 -- such an input, of which 18 bytes and more were read, prints nothing
 pub nothing_printed : (held a b : Option (List ℕ)) (s : Text) → Consumes a b (drop 0 s) → 17 < length s → IfSome a (λ input. Appends held held (load_for input))

@@ -7,7 +7,7 @@ ghost use Rattle.console.specs.Writes.{Writes};
 ghost use Rattle.grammar.specs.Load.{load, load_for};
 
 use console::{Failure, Input};
-use grammar::Asked;
+use grammar::Load;
 use std::io;
 use std::io::{Read, Write};
 
@@ -29,11 +29,10 @@ fn answer<W: Write>(to: &mut W, input: &[u8]) -> Result<(), Failure>
     ensures { Writes result (W.contents to.old) (W.contents to.new) (load_for input.now) }
 {
     match generator::asked(input) {
-        Asked::Load { start, count } => match print_records(to, start, count) {
-            Ok(()) => Ok(()),
-            Err(_) => Err(Failure::Output),
-        },
-        Asked::Other => Ok(()),
+        Some(Load { start, count }) => {
+            print_records(to, start, count).map_err(|_| Failure::Output)
+        }
+        None => Ok(()),
     }
 }
 

@@ -3,16 +3,15 @@
 // is accepted. Prints a line `NAME=COUNT` for each.
 #![tactic(auto)]
 
-ghost use Rattle.std.specs.Prelude.{◌≤◌, ◌<◌, length};
+ghost use Rattle.std.specs.Prelude.{◌≤◌, ◌<◌, IfSome};
 
 use annotate::ArrayParts;
 use definitions::{
-    ArraySize, Arrays, Cond, DeclDesc, ElementSize, EndiannessValue, FieldDesc, Head, Options,
+    ArraySize, Arrays, DeclDesc, ElementSize, EndiannessValue, FieldDesc, Head, Options,
 };
-use record::Reading;
-use sizes::Sizing;
 use std::io;
 use std::io::Write;
+use tables::Tables;
 
 // ---- where each count stands
 
@@ -64,15 +63,11 @@ fn decl_number(d: DeclDesc) -> usize
     ensures { result < 5 }
 {
     match d {
-        DeclDesc::Packet { parent_id: _ } => 0,
-        DeclDesc::Struct { parent_id: _ } => 1,
-        DeclDesc::Enum {
-            width: _,
-            open: _,
-            complete: _,
-        } => 2,
-        DeclDesc::Checksum { width: _ } => 3,
-        DeclDesc::CustomField { width: _ } => 4,
+        DeclDesc::Packet { .. } => 0,
+        DeclDesc::Struct { .. } => 1,
+        DeclDesc::Enum { .. } => 2,
+        DeclDesc::Checksum { .. } => 3,
+        DeclDesc::CustomField { .. } => 4,
     }
 }
 
@@ -80,45 +75,20 @@ fn kind_number(d: FieldDesc) -> usize
     ensures { result < 14 }
 {
     match d {
-        FieldDesc::Scalar { id: _, width: _ } => 0,
-        FieldDesc::Size {
-            field_id: _,
-            width: _,
-        } => 1,
-        FieldDesc::Count {
-            field_id: _,
-            width: _,
-        } => 2,
-        FieldDesc::ElementSize {
-            field_id: _,
-            width: _,
-        } => 3,
-        FieldDesc::FixedScalar { width: _, value: _ } => 4,
-        FieldDesc::FixedEnum {
-            enum_id: _,
-            tag_id: _,
-        } => 5,
-        FieldDesc::Reserved { width: _ } => 6,
-        FieldDesc::Flag { id: _ } => 7,
-        FieldDesc::Typedef { id: _, type_id: _ } => 8,
-        FieldDesc::Array {
-            id: _,
-            width: _,
-            type_id: _,
-            size_modifier: _,
-            size: _,
-        } => 9,
-        FieldDesc::Payload { size_modifier: _ } => 10,
+        FieldDesc::Scalar { .. } => 0,
+        FieldDesc::Size { .. } => 1,
+        FieldDesc::Count { .. } => 2,
+        FieldDesc::ElementSize { .. } => 3,
+        FieldDesc::FixedScalar { .. } => 4,
+        FieldDesc::FixedEnum { .. } => 5,
+        FieldDesc::Reserved { .. } => 6,
+        FieldDesc::Flag { .. } => 7,
+        FieldDesc::Typedef { .. } => 8,
+        FieldDesc::Array { .. } => 9,
+        FieldDesc::Payload { .. } => 10,
         FieldDesc::Body => 11,
-        FieldDesc::Padding { size: _ } => 12,
-        FieldDesc::Checksum { field_id: _ } => 13,
-    }
-}
-
-fn is_optional(c: Cond) -> bool {
-    match c {
-        Cond::Some { id: _, value: _ } => true,
-        Cond::None => false,
+        FieldDesc::Padding { .. } => 12,
+        FieldDesc::Checksum { .. } => 13,
     }
 }
 
@@ -146,102 +116,69 @@ fn size_number(a: ArraySize) -> usize
 // ---- one record
 
 fn count_head(counts: &mut [u64; 95], options: Options) {
-    let endianness = options.endianness;
-    let arrays = options.arrays;
-    add(counts, ENDIAN + endian_number(endianness));
-    add(counts, ARRAYS + arrays_number(arrays));
+    add(counts, ENDIAN + endian_number(options.endianness));
+    add(counts, ARRAYS + arrays_number(options.arrays));
 }
 
 // The kinds of the fields of declaration i, from the count `from` on.
-fn count_fields(
-    counts: &mut [u64; 95],
-    rows: &[u64],
-    values: &[u64],
-    fields: &[u16],
-    i: usize,
-    from: usize,
-)
+fn count_fields(counts: &mut [u64; 95], t: &Tables, i: usize, from: usize)
     requires { from ≤ 95 }
 {
-    let n = tables::count_here(rows, i);
-    for k in 0..n {
-        let f = references::field_in(values, fields, i, k);
-        let desc = f.desc;
-        add(counts, from + kind_number(desc));
+    for k in 0..tables::count_here(t.rows, i) {
+        add(
+            counts,
+            from + kind_number(references::field_in(t, i, k).desc),
+        );
     }
 }
 
 // The n declarations, and the kinds of their fields.
-fn count_declarations(
-    counts: &mut [u64; 95],
-    rows: &[u64],
-    values: &[u64],
-    fields: &[u16],
-    n: usize,
-) {
+fn count_declarations(counts: &mut [u64; 95], t: &Tables, n: usize) {
     for i in 0..n {
-        let d = tables::decl_here(rows, i);
-        let desc = d.desc;
-        add(counts, DECLS + decl_number(desc));
-        count_fields(counts, rows, values, fields, i, KINDS);
+        add(
+            counts,
+            DECLS + decl_number(tables::decl_here(t.rows, i).desc),
+        );
+        count_fields(counts, t, i, KINDS);
     }
 }
 
-// The shape of an array of declaration i: its element size and its array size. 12 of another field.
-fn shape_of(
-    rec: &[u8],
-    rows: &[u64],
-    values: &[u64],
-    fields: &[u16],
-    i: usize,
-    n: usize,
-    desc: FieldDesc,
-) -> usize
-    ensures { result ≤ 12 }
+// The shape of an array of declaration i: its element size and its array size. None of another field.
+fn shape_of(t: &Tables, i: usize, n: usize, desc: FieldDesc) -> Option<usize>
+    ensures { IfSome result (λ shape. shape < 12) }
 {
-    if let FieldDesc::Array {
+    let FieldDesc::Array {
         id,
         width,
         type_id,
-        size_modifier: _,
         size,
+        ..
     } = desc
-    {
-        let parts = ArrayParts {
-            id,
-            width,
-            type_id,
-            size,
-        };
-        let element = sizes::element_size(rec, rows, values, fields, i, n, parts);
-        let whole = references::array_size(rec, values, fields, i, n, id, size);
-        return element_number(element) * 4 + size_number(whole);
-    }
-    12
+    else {
+        return None;
+    };
+    let parts = ArrayParts {
+        id,
+        width,
+        type_id,
+        size,
+    };
+    let element = sizes::element_size(t, i, n, parts);
+    let whole = references::array_size(t, i, n, id, size);
+    Some(element_number(element) * 4 + size_number(whole))
 }
 
 // The optional fields of the target, and the shapes of its arrays from the count `shapes` on.
-fn count_target(
-    counts: &mut [u64; 95],
-    rec: &[u8],
-    rows: &[u64],
-    values: &[u64],
-    fields: &[u16],
-    i: usize,
-    shapes: usize,
-)
+fn count_target(counts: &mut [u64; 95], t: &Tables, i: usize, shapes: usize)
     requires { shapes ≤ 95 }
 {
-    let n = tables::count_here(rows, i);
+    let n = tables::count_here(t.rows, i);
     for k in 0..n {
-        let f = references::field_in(values, fields, i, k);
-        let desc = f.desc;
-        let cond = f.cond;
-        if is_optional(cond) {
-            add(counts, OPTIONAL_KINDS + kind_number(desc));
+        let f = references::field_in(t, i, k);
+        if f.cond.is_some() {
+            add(counts, OPTIONAL_KINDS + kind_number(f.desc));
         }
-        let shape = shape_of(rec, rows, values, fields, i, n, desc);
-        if shape < 12 {
+        if let Some(shape) = shape_of(t, i, n, f.desc) {
             add(counts, shapes + shape);
         }
     }
@@ -272,14 +209,18 @@ fn count_read(
     if 32 < n {
         return;
     }
-    if let Sizing::Target(i) = sizes::check_sizes(rec, head, rows, values, fields, n) {
-        let options = head.options;
-        count_head(counts, options);
-        count_declarations(counts, rows, values, fields, n);
-        count_fields(counts, rows, values, fields, i, TARGET_KINDS);
-        let arrays = options.arrays;
-        let shapes = shapes_of(arrays, accepted);
-        count_target(counts, rec, rows, values, fields, i, shapes);
+    if let Ok(i) = sizes::check_sizes(rec, head, rows, values, fields, n) {
+        let t = Tables {
+            source: rec,
+            rows,
+            values,
+            fields,
+        };
+        count_head(counts, head.options);
+        count_declarations(counts, &t, n);
+        count_fields(counts, &t, i, TARGET_KINDS);
+        let shapes = shapes_of(head.options.arrays, accepted);
+        count_target(counts, &t, i, shapes);
     }
 }
 
@@ -292,7 +233,7 @@ fn count_record(counts: &mut [u64; 95], rec: &[u8]) {
     let mut rows = [0u64; 416];
     let mut values = [0u64; 17408];
     let mut fields = [0u16; 2048];
-    if let Reading::Pass(head, n) = record::read_record(rec, &mut rows, &mut values, &mut fields) {
+    if let Ok((head, n)) = record::read_record(rec, &mut rows, &mut values, &mut fields) {
         count_read(
             counts,
             rec,
@@ -314,23 +255,10 @@ fn count_load(counts: &mut [u64; 95], start: u32, count: u64) {
     for _ in 0..count {
         let drawn = generator::put_record(state, &mut buf);
         state = drawn.state;
-        let end = drawn.end;
-        if 0 < end {
-            count_record(counts, console::front(&buf, end - 1));
+        if 0 < drawn.end {
+            count_record(counts, console::front(&buf, drawn.end - 1));
         }
     }
-}
-
-// The end of the name that starts at `start`, which is the next space or the end of all names.
-fn name_end(names: &[u8], start: usize) -> usize
-    requires { start ≤ length names.now }
-    ensures { (start ≤ result) × (result ≤ length names.now) }
-{
-    let mut end = start;
-    while end < names.len() && names[end] != b' ' {
-        end += 1;
-    }
-    end
 }
 
 fn print_count<W: Write>(to: &mut W, group: &[u8], name: &[u8], count: u64) -> io::Result<()> {
@@ -339,21 +267,16 @@ fn print_count<W: Write>(to: &mut W, group: &[u8], name: &[u8], count: u64) -> i
     console::print_number(to, name, count)
 }
 
-// A line `GROUP NAME=COUNT` for each of the names, which stand with a space between them; their counts stand from `from` on.
+// A line `GROUP NAME=COUNT` for each of the names, whose counts stand from `from` on.
 fn print_counts<W: Write>(
     to: &mut W,
     counts: &[u64; 95],
     from: usize,
     group: &[u8],
-    names: &[u8],
+    names: &[&str],
 ) -> io::Result<()> {
-    let mut start = 0;
-    let mut i = from;
-    while start < names.len() && i < 95 {
-        let end = name_end(names, start);
-        print_count(to, group, &names[start..end], counts[i])?;
-        start = end + 1;
-        i += 1;
+    for (name, &count) in names.iter().zip(counts.iter().skip(from)) {
+        print_count(to, group, name.as_bytes(), count)?;
     }
     Ok(())
 }
@@ -367,29 +290,46 @@ fn run<W: Write>(to: &mut W) -> io::Result<()> {
         &counts,
         ANSWERS,
         b"answer",
-        b"0 1 2 3 4 5 6 7 8 9 10 11 12 13 14 15 16 17 18 19",
+        &[
+            "0", "1", "2", "3", "4", "5", "6", "7", "8", "9", "10", "11", "12", "13", "14", "15",
+            "16", "17", "18", "19",
+        ],
     )?;
-    print_counts(to, &counts, ENDIAN, b"endian", b"little big")?;
-    print_counts(to, &counts, ARRAYS, b"arrays", b"lite full")?;
+    print_counts(to, &counts, ENDIAN, b"endian", &["little", "big"])?;
+    print_counts(to, &counts, ARRAYS, b"arrays", &["lite", "full"])?;
     print_counts(
         to,
         &counts,
         DECLS,
         b"decl",
-        b"packet struct enum checksum custom",
+        &["packet", "struct", "enum", "checksum", "custom"],
     )?;
-    let kinds =
-        b"scalar size count elemsize fixed fixedenum reserved flag typedef array payload body padding checksum";
-    print_counts(to, &counts, KINDS, b"field", kinds)?;
-    print_counts(to, &counts, TARGET_KINDS, b"target", kinds)?;
-    print_counts(to, &counts, OPTIONAL_KINDS, b"optional", kinds)?;
-    let sizes = b"StaticCount DynamicCount DynamicSize Unknown";
-    print_counts(to, &counts, SHAPES, b"lite Static", sizes)?;
-    print_counts(to, &counts, SHAPES + 4, b"lite Dynamic", sizes)?;
-    print_counts(to, &counts, SHAPES + 8, b"lite Unknown", sizes)?;
-    print_counts(to, &counts, SHAPES + 12, b"full Static", sizes)?;
-    print_counts(to, &counts, SHAPES + 16, b"full Dynamic", sizes)?;
-    print_counts(to, &counts, SHAPES + 20, b"full Unknown", sizes)
+    let kinds = [
+        "scalar",
+        "size",
+        "count",
+        "elemsize",
+        "fixed",
+        "fixedenum",
+        "reserved",
+        "flag",
+        "typedef",
+        "array",
+        "payload",
+        "body",
+        "padding",
+        "checksum",
+    ];
+    print_counts(to, &counts, KINDS, b"field", &kinds)?;
+    print_counts(to, &counts, TARGET_KINDS, b"target", &kinds)?;
+    print_counts(to, &counts, OPTIONAL_KINDS, b"optional", &kinds)?;
+    let sizes = ["StaticCount", "DynamicCount", "DynamicSize", "Unknown"];
+    print_counts(to, &counts, SHAPES, b"lite Static", &sizes)?;
+    print_counts(to, &counts, SHAPES + 4, b"lite Dynamic", &sizes)?;
+    print_counts(to, &counts, SHAPES + 8, b"lite Unknown", &sizes)?;
+    print_counts(to, &counts, SHAPES + 12, b"full Static", &sizes)?;
+    print_counts(to, &counts, SHAPES + 16, b"full Dynamic", &sizes)?;
+    print_counts(to, &counts, SHAPES + 20, b"full Unknown", &sizes)
 }
 
 fn main(rt: HostRuntime) {

@@ -2,9 +2,9 @@
 -- holds at exit (premises `number` and `buffer`, in the contract's own words); meaning/proofs/Demands has what holds of the lines, joined/specs/Sections
 -- what holds of the sections of a file.
 -- Assumes nothing.
+use Rattle.std.specs.Prelude.{Option, Some, None}
 use mathlib.Core.Bool.{Bool, true, false}
 use mathlib.Core.List.{List, [], ◌++◌}
-use mathlib.Core.Option.{some}
 use mathlib.Core.Path.{◌≡◌, refl, sym, ap, ◌∙◌}
 use Prim.Native.Nat.{ℕ, ◌+◌, ◌/◌, ◌%◌, ◌^◌, ◌≤◌, ◌<◌}
 use native.Mathlib.Omega.{arith}
@@ -40,7 +40,7 @@ pub record Accepted (s out : Text) (r : ℕ) (left : Text) : Type 0 where
   pub length-is : r ≡ length (render (program blocks))
   pub bytes-are : left ≡ render (program blocks) ++ drop r out
   pub target : Target
-  pub is-target : target_of s ≡ some target
+  pub is-target : target_of s ≡ Some target
   -- demand 3, of these lines
   pub demand3 : Demand3 (setting s target) blocks
   -- demand 2, the bits: of each bit field of the target

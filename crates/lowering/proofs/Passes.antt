@@ -1,6 +1,8 @@
 -- The two passes over the target's plan, or over all targets: what the first one says of the lines' length, and what the second one leaves, comes to the
 -- answer for what is told; and that is the answer for the outcome of the target's fields, or of all targets.
 -- Assumes nothing.
+use Rattle.std.specs.Prelude.{Result, Ok, Err}
+use Rattle.definitions.specs.Refusals.{Verdict, number}
 use Prim.Native.Nat.{ℕ, ◌*◌, ◌^◌, ◌≤◌, ◌<◌}
 use mathlib.Core.List.{List, [], ◌++◌}
 use mathlib.Core.Path.{◌≡◌, refl, sym, ap, ◌∙◌, subst}
@@ -10,7 +12,6 @@ use borrow.Author.Tests.{le-leb, lt-leb}
 use lib.ListN.{length, drop}
 use lib.Seq.{sets-eq}
 use Rattle.definitions.specs.Bytes.{Text}
-use Rattle.definitions.specs.Refusals.{number}
 use Rattle.definitions.specs.Sizes.{Schema, Annotated, annotate_fields}
 use Rattle.definitions.specs.Lines.{render}
 use Rattle.definitions.specs.Blocks.{program}
@@ -22,11 +23,11 @@ use Rattle.definitions.specs.declared.Head.{Head}
 use Rattle.definitions.specs.declared.Options.{Options}
 use Rattle.definitions.specs.declared.Part.{Part}
 use Rattle.definitions.specs.declared.Refusal.{Refusal}
-use Rattle.definitions.specs.declared.Verdict.{Verdict}
 use Rattle.lengths.specs.Shares.{most_bytes}
 use Rattle.text.specs.Put.{Put}
-use Rattle.stream.specs.Stream.{Result, refuses, writes, rendered, fresh}
-use Rattle.tables.specs.Tables.{fields_from, Tables, fields_of}
+use Rattle.text.specs.declared.Writer.{Writer}
+use Rattle.stream.specs.Stream.{Result as Streamed, refuses, writes, rendered, fresh}
+use Rattle.tables.specs.Tables.{fields_from, Tables, tables_of, fields_of}
 use Rattle.emits.specs.Target.{setting_at, rest_at, Fine}
 use Rattle.plans.specs.Planned.{Planned}
 use Rattle.plans.specs.Told.{Told, tell, result_by, result_of}
@@ -35,11 +36,10 @@ use Rattle.plans.specs.declared.PlanAt.{PlanAt}
 use Rattle.plans.proofs.Tells.{told}
 use Rattle.planner.specs.Entries.{Entries}
 use Rattle.planner.proofs.Stands.{is-plan}
-use Rattle.parser.specs.Driver.{TellsBy, Tells}
-use Rattle.parser.specs.declared.Lowered.{Lowered}
-use Rattle.targets.specs.Told.{tell_each, rendered_all}
+use Rattle.parser.specs.Driver.{Tells}
+use Rattle.targets.specs.Told.{tell_each, rendered_all, verdict_of, SectionsTold}
 use Rattle.targets.proofs.Agree.{each-told}
-use Rattle.lowering.specs.Steps.{Gives, Answers, lowered_by, AnswersTold, ToldFits, Short}
+use Rattle.lowering.specs.Steps.{word_of, Gives, Answers, lowered_by, AnswersTold, ToldFits, Short}
 
 -- a refusal: no byte is changed
 pub refuses-all : (why : Refusal) (out : Text) {r : ℕ} → r ≡ number why * 2 ^ 32 → Answers (refused why) out r out
@@ -53,13 +53,10 @@ refuses-each why out e = record { number_is = omega (arith, e); buffer_is = refl
 -- ---- what is told
 
 module _ (d : Told) where
-  pub told-refused : {why : Refusal} → d.verdict ≡ Verdict.Refuse why → {out : Text} {r : ℕ} → r ≡ number why * 2 ^ 32 → AnswersTold d out r out
+  pub told-refused : {why : Refusal} → d.verdict ≡ Err why → {out : Text} {r : ℕ} → r ≡ number why * 2 ^ 32 → AnswersTold d out r out
   told-refused said e = record { number_is = rw (said) (omega (arith, e)); buffer_is = rw (said) }
 
-  module _ (said : d.verdict ≡ Verdict.Pass) where
-    wrote : {b x : Text} {q : Lowered} → Tells d b 0 q x → Put b 0 d.lines q.at x
-    wrote {b} {x} {q} su = subst (λ (v : Verdict). TellsBy v d.lines b 0 q x) said su.wrote
-
+  module _ (said : d.verdict ≡ Ok tt) where
     told-long : {out : Text} → length out < length d.lines → {r : ℕ} → r ≡ number Refusal.NoRoom * 2 ^ 32 → AnswersTold d out r out
     unfolding fitted
     told-long {out} long e = record {
@@ -67,52 +64,96 @@ module _ (d : Told) where
       buffer_is = rw (said, fitted, lt-leb (length d.lines) (length out) long);
     }
 
-    pub told-written : {out : Text} → length d.lines ≤ length out → {q : Lowered} {x : Text} → Tells d out 0 q x → AnswersTold d out q.at x
+    told-written : {out : Text} → length d.lines ≤ length out → {at : ℕ} {left : Text} → Put out 0 d.lines at left → AnswersTold d out at left
     unfolding fitted
-    told-written {out} short su = record {
-      number_is =
-          rw (said, fitted, le-leb (length d.lines) (length out) short) (omega (arith, short, (wrote su).next, (wrote su).room));
+    told-written {out} short put = record {
+      number_is = rw (said, fitted, le-leb (length d.lines) (length out) short) (omega (arith, short, put.next, put.room));
       buffer_is =
           rw (said, fitted, le-leb (length d.lines) (length out) short)
-          ((wrote su).written ∙ sets-eq d.lines out 0 (omega (arith, short)) ∙ ap (λ (k : ℕ). d.lines ++ drop k out) (zero-add (length d.lines)));
+          (put.written ∙ sets-eq d.lines out 0 (omega (arith, short)) ∙ ap (λ (k : ℕ). d.lines ++ drop k out) (zero-add (length d.lines)));
     }
+
+-- the number of an error
+pub of-error : {x : Result ℕ Refusal} {why : Refusal} → x ≡ Err why → word_of x ≡ number why * 2 ^ 32
+of-error e = ap word_of e
+
+-- two passes come to one verdict
+other-verdict : {v : Verdict} {why : Refusal} → v ≡ Ok tt → v ≡ Err why → {A : Type 0} → A
+other-verdict e f = absurd (let z : Ok tt ≡ Err _ = sym e ∙ f in let k : ◌≡◌ {A = ℕ} 0 1 = cc in omega arith)
 
 -- ---- by the first of two passes, into a buffer of no consequence
 
-module _ (d : Told) {buf left : Text} {l : Lowered} (st : Tells d buf 0 l left) where
-  as-told : {v : Verdict} → l.verdict ≡ v → d.verdict ≡ v
-  as-told hv = sym st.verdict_is ∙ hv
+module _ (d : Told) {u v : Writer} (start : u.at ≡ 0) {x : Verdict} (st : Tells d u v x) where
+  pub pass-refused : {why : Refusal} → x ≡ Err why → {out : Text} {r : ℕ} → r ≡ number why * 2 ^ 32 → AnswersTold d out r out
+  pass-refused h e = told-refused d (sym st.verdict_is ∙ h) e
 
-  pub pass-refused : {why : Refusal} → l.verdict ≡ Verdict.Refuse why → {out : Text} {r : ℕ} → r ≡ number why * 2 ^ 32 → AnswersTold d out r out
-  pass-refused hv e = told-refused d (as-told hv) e
+  module _ (h : x ≡ Ok tt) where
+    said : d.verdict ≡ Ok tt
+    said = sym st.verdict_is ∙ h
 
-  module _ (hv : l.verdict ≡ Verdict.Pass) where
-    pub pass-no-room : {out : Text} → length out < l.at → {r : ℕ} → r ≡ number Refusal.NoRoom * 2 ^ 32 → AnswersTold d out r out
-    pass-no-room w e = told-long d (as-told hv) (omega (arith, w, (wrote d (as-told hv) st).next)) e
+    pub pass-no-room : {out : Text} → length out < v.at → {r : ℕ} → r ≡ number Refusal.NoRoom * 2 ^ 32 → AnswersTold d out r out
+    pass-no-room w e = told-long d said (omega (arith, w, st.wrote.put.next, start)) e
 
-    pub pass-written : {out : Text} → l.at ≤ length out → {q : Lowered} {x : Text} → Tells d out 0 q x → AnswersTold d out q.at x
-    pass-written w su =
-        told-written d (as-told hv) (omega (arith, w, (wrote d (as-told hv) st).next, (wrote d (as-told hv) su).room)) su
+    -- the second one
+    module _ {out : Text} (w : v.at ≤ length out) {p q : Writer} (is_out : p.out.now ≡ out) (front : p.at ≡ 0) {y : Verdict} (su : Tells d p q y) where
+      put : Put out 0 d.lines q.at q.out.now
+      put =
+          subst (λ (b : Text). Put b 0 d.lines q.at q.out.now) is_out (subst (λ (k : ℕ). Put p.out.now k d.lines q.at q.out.now) front su.wrote.put)
+
+      pub pass-written : {left : Text} → left ≡ q.out.now → AnswersTold d out q.at left
+      pass-written e =
+          subst (AnswersTold d out q.at) (sym e) (told-written d said (omega (arith, w, st.wrote.put.next, start, put.room)) put)
+
+      pub pass-again : {why : Refusal} → y ≡ Err why → {A : Type 0} → A
+      pass-again e = other-verdict said (sym su.verdict_is ∙ e)
+
+-- the same of all sections
+module _ (d : Told) {buf after : Text} {x : Result ℕ Refusal} (st : SectionsTold d buf x after) where
+  pub sections-refused : {why : Refusal} → x ≡ Err why → {out : Text} {r : ℕ} → r ≡ number why * 2 ^ 32 → AnswersTold d out r out
+  sections-refused h e = told-refused d (sym st.verdict_is ∙ ap verdict_of h) e
+
+  module _ {whole : ℕ} (h : x ≡ Ok whole) where
+    all-said : d.verdict ≡ Ok tt
+    all-said = sym st.verdict_is ∙ ap verdict_of h
+
+    pub sections-no-room : {out : Text} → length out < whole → {r : ℕ} → r ≡ number Refusal.NoRoom * 2 ^ 32 → AnswersTold d out r out
+    sections-no-room w e = told-long d all-said (omega (arith, w, (st.wrote h).next)) e
+
+    pub sections-written : {out : Text} → whole ≤ length out → {y : Result ℕ Refusal} {left : Text} → SectionsTold d out y left
+        → AnswersTold d out (word_of y) left
+    sections-written {out} w {y} {left} su = by y refl
+      where
+        by : (z : Result ℕ Refusal) → y ≡ z → AnswersTold d out (word_of y) left
+        by (Ok at) e =
+            subst (λ (k : ℕ). AnswersTold d out k left) (sym (ap word_of e))
+            (told-written d all-said (omega (arith, w, (st.wrote h).next, (su.wrote e).room)) (su.wrote e))
+        by (Err why) e = other-verdict all-said (sym su.verdict_is ∙ ap verdict_of e)
 
 -- ---- by one pass, behind the verdict
 
 module _ (d : Told) {v : Verdict} (ev : v ≡ d.verdict) where
-  pub once-refused : {why : Refusal} → v ≡ Verdict.Refuse why → {out : Text} {r : ℕ} → r ≡ number why * 2 ^ 32 → AnswersTold d out r out
+  pub once-refused : {why : Refusal} → v ≡ Err why → {out : Text} {r : ℕ} → r ≡ number why * 2 ^ 32 → AnswersTold d out r out
   once-refused hv e = told-refused d (sym ev ∙ hv) e
 
-  pub once-written : v ≡ Verdict.Pass → {out : Text} → ToldFits (length out) d → {q : Lowered} {x : Text} → Tells d out 0 q x → AnswersTold d out q.at x
-  once-written hv fits su = told-written d (sym ev ∙ hv) (fits (sym ev ∙ hv)) su
+  module _ (hv : v ≡ Ok tt) {p q : Writer} (front : p.at ≡ 0) {y : Verdict} (su : Tells d p q y) where
+    pub once-written : {out : Text} → p.out.now ≡ out → ToldFits (length out) d → {left : Text} → left ≡ q.out.now → AnswersTold d out q.at left
+    once-written {out} is_out fits e =
+        subst (AnswersTold d out q.at) (sym e) (told-written d (sym ev ∙ hv) (fits (sym ev ∙ hv))
+        (subst (λ (b : Text). Put b 0 d.lines q.at q.out.now) is_out (subst (λ (k : ℕ). Put p.out.now k d.lines q.at q.out.now) front su.wrote.put)))
+
+    pub once-again : {why : Refusal} → y ≡ Err why → {A : Type 0} → A
+    once-again e = other-verdict (sym ev ∙ hv) (sym su.verdict_is ∙ e)
 
 -- ---- the outcome of the target's fields
 
 -- a result, with 15 on top
-abbrev result_in : ℕ → Result → Answered
+abbrev result_in : ℕ → Streamed → Answered
 result_in room (refuses why) = turned_back why
 result_in room (writes t) = fitted room t
 
 told_in : (room : ℕ) (v : Verdict) (t : Text) → result_in room (result_by v t) ≡ lowered_by room v t
-told_in room Verdict.Pass t = refl
-told_in room (Verdict.Refuse why) t = refl
+told_in room (Ok _) t = refl
+told_in room (Err why) t = refl
 
 outcome-in : (room : ℕ) (o : Outcome) → lowered room o ≡ result_in room (rendered o)
 unfolding lowered
@@ -166,21 +207,29 @@ module _ (t : Tables) (i n : ℕ) (o : Options) where
   as-plan fine entries =
       told (setting_at t i n o) (rest_at t i n 0) ∙ ap (λ (ps : List Planned). result_of (tell o fresh ps)) (sym (is-plan fine entries).stands)
 
-  pub plan-answers : Fine t i n → {plan : List PlanAt} → Entries t i n o plan → {out left : Text} {r : ℕ}
-      → ((bits : Part → ℕ) → AnswersTold (tell o fresh (plans_from o t.source bits plan 0 n)) out r left)
-      → Answers (lower_fields (setting_at t i n o) (rest_at t i n 0)) out r left
-  plan-answers fine {plan} entries a =
-      told-answers outcome (tell o fresh (plans_from o t.source backing plan 0 n)) (as-plan fine entries) (a backing)
+  -- `source` is the slice that the tables lend
+  module _ {source rows values fields : List ℕ} (seen : tables_of source rows values fields ≡ t) (fine : Fine t i n) {plan : List PlanAt}
+      (entries : Entries t i n o plan) where
+    abbrev tells : (Part → ℕ) → Text → Told
+    tells bits s = tell o fresh (plans_from o s bits plan 0 n)
 
-  -- in one pass, where the lines are short
-  pub once-answers : Fine t i n → {plan : List PlanAt} → Entries t i n o plan → {out left : Text} {r : ℕ}
-      → Short (lower_fields (setting_at t i n o) (rest_at t i n 0)) → most_bytes ≤ length out
-      → ((bits : Part → ℕ) → ToldFits (length out) (tell o fresh (plans_from o t.source bits plan 0 n))
-      → AnswersTold (tell o fresh (plans_from o t.source bits plan 0 n)) out r left)
-      → Answers (lower_fields (setting_at t i n o) (rest_at t i n 0)) out r left
-  once-answers fine {plan} entries short h a =
-      let d : Told = tell o fresh (plans_from o t.source backing plan 0 n) in
-      told-answers outcome d (as-plan fine entries) (a backing (told-short outcome d (as-plan fine entries) short h))
+    same : tells backing source ≡ tells backing t.source
+    same = ap (λ (a : Tables). tells backing a.source) seen
+
+    pub plan-answers : {out left : Text} {r : ℕ} → ((bits : Part → ℕ) → AnswersTold (tell o fresh (plans_from o source bits plan 0 n)) out r left)
+        → Answers (lower_fields (setting_at t i n o) (rest_at t i n 0)) out r left
+    plan-answers {out} {left} {r} a =
+        told-answers outcome (tells backing t.source) (as-plan fine entries) (subst (λ (d : Told). AnswersTold d out r left) same (a backing))
+
+    -- in one pass, where the lines are short
+    pub once-answers : {out left : Text} {r : ℕ} → Short (lower_fields (setting_at t i n o) (rest_at t i n 0)) → most_bytes ≤ length out
+        → ((bits : Part → ℕ) → ToldFits (length out) (tell o fresh (plans_from o source bits plan 0 n))
+        → AnswersTold (tell o fresh (plans_from o source bits plan 0 n)) out r left)
+        → Answers (lower_fields (setting_at t i n o) (rest_at t i n 0)) out r left
+    once-answers {out} {left} {r} short h a =
+        let fits : ToldFits (length out) (tells backing t.source) = told-short outcome (tells backing t.source) (as-plan fine entries) short h in
+        told-answers outcome (tells backing t.source) (as-plan fine entries)
+        (subst (λ (d : Told). AnswersTold d out r left) same (a backing (subst (ToldFits (length out)) (sym same) fits)))
 
 -- a target without fields
 no_fields_lem : (t : Tables) (i : ℕ) → rest_at t i 0 0 ≡ []

@@ -1,5 +1,6 @@
 -- The reader's answer and what stands behind it come to the record's answer.
 -- Assumes nothing.
+use Rattle.std.specs.Prelude.{Result, Ok, Err}
 use Prim.Native.Nat.{ℕ, ◌*◌, ◌^◌, ◌≤◌}
 use mathlib.Core.Path.{◌≡◌, sym, ap, ◌∙◌, subst}
 use borrow.Author.Tests.{ltb-false}
@@ -18,11 +19,9 @@ use Rattle.bits.proofs.Booleans.{or_right}
 use Rattle.tables.specs.Tables.{Tables}
 use Rattle.places.specs.Places.{given}
 use Rattle.record.specs.Reader.{OfRecord}
-use Rattle.record.specs.declared.Reading.{Reading}
 use Rattle.record.proofs.Agree.{Whole}
 use Rattle.record.proofs.Answered.{Passed, answer-refused, all-refused, reading-passed, answer-passed, all-passed, verdict-passed}
 use Rattle.sizes.specs.Answers.{check_sizes, sizes_verdict}
-use Rattle.sizes.specs.declared.Sizing.{Sizing}
 use Rattle.sizes.proofs.Verdicts.{sizes-verdict}
 use Rattle.lowering.specs.Steps.{Gives, Answers, Short, Few, lower_sized, all_sized, sized_for, lower_for}
 use Rattle.lowering.specs.declared.Wanted.{Wanted}
@@ -40,27 +39,27 @@ module _ (s : Text) (h : Head) (n : ℕ) (t : Tables) (p : Passed s h n t) where
   unfolding lower_sized lower_record
   sized-record = by (check_sizes s h schema) same-verdict ∙ sym (answer-passed p)
     where
-      by : (x : Sizing) → verdict s h (given t n) schema ≡ sizes_verdict x
-          → ◌≡◌ {A = Outcome} (elim x [ Sizing.Target i ↦ lower_in s h schema | Sizing.Refuse why ↦ refused why ]) (lower_record s h (given t n) schema)
-      by (Sizing.Target i) e = rw (e, lower_record)
-      by (Sizing.Refuse why) e = rw (e, lower_record)
+      by : (x : Result ℕ Refusal) → verdict s h (given t n) schema ≡ sizes_verdict x
+          → ◌≡◌ {A = Outcome} (elim x [ Ok i ↦ lower_in s h schema | Err why ↦ refused why ]) (lower_record s h (given t n) schema)
+      by (Ok i) e = rw (e, lower_record)
+      by (Err why) e = rw (e, lower_record)
 
   sized-all : all_sized s h schema ≡ answer_all s
   unfolding all_sized all_record
   sized-all = by (check_sizes s h schema) same-verdict ∙ sym (all-passed p)
     where
-      by : (x : Sizing) → verdict s h (given t n) schema ≡ sizes_verdict x
-          → ◌≡◌ {A = Outcomes} (elim x [ Sizing.Target i ↦ lower_each s h schema | Sizing.Refuse why ↦ refused_all why ]) (all_record s h (given t n) schema)
-      by (Sizing.Target i) e = rw (e, all_record)
-      by (Sizing.Refuse why) e = rw (e, all_record)
+      by : (x : Result ℕ Refusal) → verdict s h (given t n) schema ≡ sizes_verdict x
+          → ◌≡◌ {A = Outcomes} (elim x [ Ok i ↦ lower_each s h schema | Err why ↦ refused_all why ]) (all_record s h (given t n) schema)
+      by (Ok i) e = rw (e, all_record)
+      by (Err why) e = rw (e, all_record)
 
   sized-for : (wanted : Wanted) (room : ℕ) → sized_for wanted room s h schema ≡ lower_for wanted s room
   unfolding sized_for lower_for
   sized-for Wanted.Target room = ap (lowered room) sized-record
   sized-for Wanted.All room = ap (lowered_all room) sized-all
 
-module _ {s : Text} {t u : Tables} {x : Reading} (k : OfRecord s t x u) where
-  pub read-refused : (wanted : Wanted) → {why : Refusal} → x ≡ Reading.Refuse why → {out : Text} {r : ℕ} → r ≡ number why * 2 ^ 32
+module _ {s : Text} {t u : Tables} {x : Result (Head × ℕ) Refusal} (k : OfRecord s t x u) where
+  pub read-refused : (wanted : Wanted) → {why : Refusal} → x ≡ Err why → {out : Text} {r : ℕ} → r ≡ number why * 2 ^ 32
       → Gives (lower_for wanted s (length out)) out r out
   unfolding lower_for
   read-refused wanted {why} hx {out} {r} e = by wanted
@@ -70,7 +69,7 @@ module _ {s : Text} {t u : Tables} {x : Reading} (k : OfRecord s t x u) where
       by Wanted.All =
           subst (λ (o : Outcomes). Gives (lowered_all (length out) o) out r out) (sym (all-refused s why (sym k.answer ∙ hx))) (refuses-each why out e)
 
-  module _ (w : Whole s t) {h : Head} {n : ℕ} (hx : x ≡ Reading.Pass h n) where
+  module _ (w : Whole s t) {h : Head} {n : ℕ} (hx : x ≡ Ok (h, n)) where
     passes : Passed s h n u
     passes = subst (λ (v : Tables). Passed s h n v) (sym k.tables) (reading-passed s t w h n (sym k.answer ∙ hx))
 

@@ -1,6 +1,7 @@
 -- Behind refusals 7, 8, 17 and 9: the target stands in the tables at the index that `check_sizes` gives, the fields of each declaration are behind refusal 7,
 -- and lowering those of the target, or of every packet and struct, is lowering the record.
 -- Assumes nothing.
+use Rattle.std.specs.Prelude.{Result, Ok, Err, Option, Some, None}
 use Prim.Native.Nat.{ℕ, zero, suc, ◌+◌, ◌*◌, ◌^◌, ◌≤◌, ◌<◌}
 use mathlib.Core.Bool.{Bool, true, false, ◌&&◌, ◌||◌}
 use mathlib.Core.List.{List}
@@ -15,7 +16,6 @@ use Rattle.definitions.specs.Tables.{encode}
 use Rattle.definitions.specs.FieldParser.{Outcome, refused, lower_fields}
 use Rattle.definitions.specs.Answer.{lower_target, lower_in}
 use Rattle.definitions.specs.All.{Outcomes, refused_all, lower_each, lowered_all}
-use Rattle.definitions.specs.declared.Found.{Found}
 use Rattle.definitions.specs.declared.Head.{Head}
 use Rattle.definitions.specs.declared.Part.{Part}
 use Rattle.definitions.specs.declared.Refusal.{Refusal}
@@ -25,7 +25,6 @@ use Rattle.tables.proofs.Sized.{count-sized}
 use Rattle.schema.specs.Entries.{entry_in, entries_from, entry_sizes, next_entry, put_row, sized_rows}
 use Rattle.schema.specs.declared.RowSizes.{RowSizes}
 use Rattle.sizes.specs.Answers.{target_from, target_or, behind_whole, behind_schema, check_sizes, Checked}
-use Rattle.sizes.specs.declared.Sizing.{Sizing}
 use Rattle.sizes.proofs.Targets.{lower-target}
 use Rattle.sizes.proofs.Fine.{entry-fine}
 use Rattle.emits.specs.Target.{setting_at, rest_at, Fine}
@@ -38,52 +37,52 @@ use Rattle.lowering.proofs.Passes.{refuses-all, refuses-each, each-answers}
 -- ---- what `check_sizes` answers
 
 -- a target: 7 is not met, and 9 is not
-chosen : (s : Text) (h : Head) (schema : Schema) (i : ℕ) → check_sizes s h schema ≡ Sizing.Target i
-    → (large schema ≡ false) × (target_from s h.target 0 schema ≡ Found.At i)
+chosen : (s : Text) (h : Head) (schema : Schema) (i : ℕ) → check_sizes s h schema ≡ Ok i
+    → (large schema ≡ false) × (target_from s h.target 0 schema ≡ Some i)
 unfolding check_sizes behind_schema behind_whole
 chosen s h schema i = by (large schema) (ragged s schema) (misstated schema) (target_from s h.target 0 schema)
   where
-    by : (b d e : Bool) (f : Found)
-        → ◌≡◌ {A = Sizing} (elim b [
-          | true ↦ Sizing.Refuse Refusal.TooLarge
+    by : (b d e : Bool) (f : Option ℕ)
+        → ◌≡◌ {A = Result ℕ Refusal} (elim b [
+          | true ↦ Err Refusal.TooLarge
           | false ↦ elim d [
-            | true ↦ Sizing.Refuse Refusal.NotWholeBytes
-            | false ↦ elim e [ true ↦ Sizing.Refuse Refusal.Misstated | false ↦ target_or f ]
+            | true ↦ Err Refusal.NotWholeBytes
+            | false ↦ elim e [ true ↦ Err Refusal.Misstated | false ↦ target_or f ]
           ]
-        ]) (Sizing.Target i)
-        → (b ≡ false) × (f ≡ Found.At i)
+        ]) (Ok i)
+        → (b ≡ false) × (f ≡ Some i)
     by true d e f k = absurd (let z : ◌≡◌ {A = ℕ} 0 1 = cc in omega arith)
     by false true e f k = absurd (let z : ◌≡◌ {A = ℕ} 0 1 = cc in omega arith)
     by false false true f k = absurd (let z : ◌≡◌ {A = ℕ} 0 1 = cc in omega arith)
-    by false false false (Found.At j) k = (refl, (let q : j ≡ i = cc in ap Found.At q))
-    by false false false Found.Nothing k = absurd (let z : ◌≡◌ {A = ℕ} 0 1 = cc in omega arith)
+    by false false false (Some j) k = (refl, (let q : j ≡ i = cc in ap Some q))
+    by false false false None k = absurd (let z : ◌≡◌ {A = ℕ} 0 1 = cc in omega arith)
 
 -- the target's index is one of the table's
-within : (s : Text) (name : Part) (rows v f : List ℕ) (j m i : ℕ) → target_from s name j (entries_from s rows v f j m) ≡ Found.At i → i < j + m
+within : (s : Text) (name : Part) (rows v f : List ℕ) (j m i : ℕ) → target_from s name j (entries_from s rows v f j m) ≡ Some i → i < j + m
 unfolding target_from entries_from
 within s name rows v f j zero i e = absurd (let z : ◌≡◌ {A = ℕ} 0 1 = cc in omega arith)
 within s name rows v f j (suc m) i e =
     by (same_name s (entry_in s rows v f j).row.decl.id name && is_frame (entry_in s rows v f j).row.decl.desc) e
     (λ k. within s name rows v f (j + 1) m i k)
   where
-    by : (b : Bool) → ◌≡◌ {A = Found} (elim b [ true ↦ Found.At j | false ↦ target_from s name (j + 1) (entries_from s rows v f (j + 1) m) ]) (Found.At i)
-        → (target_from s name (j + 1) (entries_from s rows v f (j + 1) m) ≡ Found.At i → i < j + 1 + m) → i < j + suc m
+    by : (b : Bool) → ◌≡◌ {A = Option ℕ} (elim b [ true ↦ Some j | false ↦ target_from s name (j + 1) (entries_from s rows v f (j + 1) m) ]) (Some i)
+        → (target_from s name (j + 1) (entries_from s rows v f (j + 1) m) ≡ Some i → i < j + 1 + m) → i < j + suc m
     by true k further = let q : j ≡ i = cc in omega arith
     by false k further = omega (arith, further k)
 
-sized-refused : (s : Text) (h : Head) (schema : Schema) (why : Refusal) → check_sizes s h schema ≡ Sizing.Refuse why → lower_sized s h schema ≡ refused why
+sized-refused : (s : Text) (h : Head) (schema : Schema) (why : Refusal) → check_sizes s h schema ≡ Err why → lower_sized s h schema ≡ refused why
 unfolding lower_sized
 sized-refused s h schema why e = rw (e, lower_sized)
 
-sized-target : (s : Text) (h : Head) (schema : Schema) (i : ℕ) → check_sizes s h schema ≡ Sizing.Target i → lower_sized s h schema ≡ lower_in s h schema
+sized-target : (s : Text) (h : Head) (schema : Schema) (i : ℕ) → check_sizes s h schema ≡ Ok i → lower_sized s h schema ≡ lower_in s h schema
 unfolding lower_sized
 sized-target s h schema i e = rw (e, lower_sized)
 
-all-refused : (s : Text) (h : Head) (schema : Schema) (why : Refusal) → check_sizes s h schema ≡ Sizing.Refuse why → all_sized s h schema ≡ refused_all why
+all-refused : (s : Text) (h : Head) (schema : Schema) (why : Refusal) → check_sizes s h schema ≡ Err why → all_sized s h schema ≡ refused_all why
 unfolding all_sized
 all-refused s h schema why e = rw (e, all_sized)
 
-all-target : (s : Text) (h : Head) (schema : Schema) (i : ℕ) → check_sizes s h schema ≡ Sizing.Target i → all_sized s h schema ≡ lower_each s h schema
+all-target : (s : Text) (h : Head) (schema : Schema) (i : ℕ) → check_sizes s h schema ≡ Ok i → all_sized s h schema ≡ lower_each s h schema
 unfolding all_sized
 all-target s h schema i e = rw (e, all_sized)
 
@@ -106,19 +105,19 @@ count_left s rows v f j (suc m) i = by (large_entry (next_entry s rows v f j)) (
 
 -- ---- over the tables of n declarations, with the rows `rows` that the sizes were written into
 
-module _ (s : Text) (h : Head) (before v f : List ℕ) (n : ℕ) (rows : List ℕ) {x : Sizing} (k : Checked s h before v f n rows x) where
+module _ (s : Text) (h : Head) (before v f : List ℕ) (n : ℕ) (rows : List ℕ) {x : Result ℕ Refusal} (k : Checked s h before v f n rows x) where
   abbrev tables : Tables
   tables = tables_of s rows v f
 
   abbrev schema : Schema
   schema = new_schema s (declarations_from before v f 0 n)
 
-  pub check-refused : (wanted : Wanted) → {why : Refusal} → x ≡ Sizing.Refuse why → {out : Text} {r : ℕ} → r ≡ number why * 2 ^ 32
+  pub check-refused : (wanted : Wanted) → {why : Refusal} → x ≡ Err why → {out : Text} {r : ℕ} → r ≡ number why * 2 ^ 32
       → Gives (sized_for wanted (length out) s h schema) out r out
   unfolding sized_for
   check-refused wanted {why} hx {out} {r} e = by wanted
     where
-      turned : check_sizes s h schema ≡ Sizing.Refuse why
+      turned : check_sizes s h schema ≡ Err why
       turned = sym k.answer ∙ hx
 
       by : (w : Wanted) → Gives (sized_for w (length out) s h schema) out r out
@@ -126,14 +125,14 @@ module _ (s : Text) (h : Head) (before v f : List ℕ) (n : ℕ) (rows : List �
       by Wanted.All =
           subst (λ (o : Outcomes). Gives (lowered_all (length out) o) out r out) (sym (all-refused s h schema why turned)) (refuses-each why out e)
 
-  module _ {i : ℕ} (hx : x ≡ Sizing.Target i) where
-    is-chosen : (large schema ≡ false) × (target_from s h.target 0 schema ≡ Found.At i)
+  module _ {i : ℕ} (hx : x ≡ Ok i) where
+    is-chosen : (large schema ≡ false) × (target_from s h.target 0 schema ≡ Some i)
     is-chosen = chosen s h schema i (sym k.answer ∙ hx)
 
     same : entries_from s rows v f 0 n ≡ schema
     same = k.tables is-chosen.0
 
-    found : target_from s h.target 0 (entries_from s rows v f 0 n) ≡ Found.At i
+    found : target_from s h.target 0 (entries_from s rows v f 0 n) ≡ Some i
     found = ap (target_from s h.target 0) same ∙ is-chosen.1
 
     target-within : i < n
@@ -174,7 +173,7 @@ module _ (s : Text) (h : Head) (before v f : List ℕ) (n : ℕ) (rows : List �
     target-lowered : lower_fields (setting_at tables i count h.options) (rest_at tables i count 0) ≡ lower_sized s h schema
     target-lowered =
         ap (lower_fields (setting_at tables i count h.options)) (rest_all tables i)
-        ∙ sym (ap (λ (r : Found). on_found r (refused Refusal.NoTarget) (λ k. lower_target s h (entry_in s rows v f k))) found)
+        ∙ sym (ap (λ (r : Option ℕ). on_found r (refused Refusal.NoTarget) (λ k. lower_target s h (entry_in s rows v f k))) found)
         ∙ sym (lower-target s h rows v f 0 n)
         ∙ ap (lower_in s h) same
         ∙ sym (sized-target s h schema i (sym k.answer ∙ hx))

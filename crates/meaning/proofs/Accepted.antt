@@ -1,9 +1,9 @@
 -- The blocks of every entry that is lowered, so of every accepted record, are as `BlocksOk` asks: what is checked is what is read, names are apart,
 -- elements have a size.
 -- Assumes nothing.
+use Rattle.std.specs.Prelude.{Option, Some, None}
 use mathlib.Core.Bool.{Bool, true, false, ◌||◌}
 use mathlib.Core.List.{List, [], ◌∷◌, ◌++◌, append_assoc}
-use mathlib.Core.Option.{Option, none, some}
 use mathlib.Core.Path.{◌≡◌, refl, sym, ap, ◌∙◌, subst}
 use Prim.Native.Nat.{ℕ, zero, suc, ◌+◌, ◌/◌, ◌%◌, ◌<◌}
 use native.Mathlib.Nat.{add-zero, div-add-mod'}
@@ -13,18 +13,16 @@ use borrow.Author.Tests.{ltb-false, eqb-true, eqb-false, not-false}
 use Rattle.definitions.specs.Bytes.{Text, text, pick}
 use Rattle.definitions.specs.Sizes.{Entry, Row, Annotated, total_size, lookup, desc_enum, enum_of, has_payload_size, any_reference, is_element_size, typed_element, element_size, static_width}
 use Rattle.definitions.specs.Refusals.{ragged_size, not_whole, ragged_array, ragged_desc, ragged_field, is_optional}
-use Rattle.definitions.specs.Blocks.{span, Kind, Bit, Chunk, chunk_name, Block, Array, widths, prefix, named}
+use Rattle.definitions.specs.Blocks.{span, Kind, Bit, Chunk, chunk_name, Block, Elem, Array, widths, prefix, named}
 use Rattle.definitions.specs.FieldParser.{Setting, FieldParser, Step, go, stop, and_then, new, append, flushed, check_code, written, member, field_name, is_cond_for, enum_kind, kind_of, bit_of, open_chunk, close_chunk, parse_bit_field, Emit, appends, silent, refuses, on_boundary, on_trailing, get_trailing_size, typedef_by_size, parse_typedef_field, optional_typedef, parse_optional_field, payload_by_size, parse_payload_field_lite, typed_elem, elem_of, with_padding, parse_array_field, parse_other, is_bit, parse_unchecked, emitted, parse, parse_all, done, Outcome, refused, accepted, code_of, lower_fields}
-use Rattle.definitions.specs.declared.EnumOf.{EnumOf}
+use Rattle.definitions.specs.declared.EnumKind.{EnumKind}
 use Rattle.definitions.specs.declared.Part.{Part}
-use Rattle.definitions.specs.declared.MaybePart.{MaybePart}
-use Rattle.definitions.specs.declared.MaybeNumber.{MaybeNumber}
 use Rattle.definitions.specs.declared.Modifier.{Modifier}
 use Rattle.definitions.specs.declared.EndiannessValue.{EndiannessValue}
 use Rattle.definitions.specs.declared.Arrays.{Arrays}
 use Rattle.definitions.specs.declared.Head.{Head}
 use Rattle.definitions.specs.declared.FieldDesc.{FieldDesc}
-use Rattle.definitions.specs.declared.Cond.{Cond}
+use Rattle.definitions.specs.declared.Condition.{Condition}
 use Rattle.definitions.specs.declared.Size.{Size}
 use Rattle.definitions.specs.declared.Refusal.{Refusal}
 use Rattle.definitions.specs.declared.ElementSize.{ElementSize}
@@ -51,28 +49,27 @@ whole n e =
 
 -- an element of a type
 typed-ok : (o : EndiannessValue) (name : Text) (given : Bool) (f : Option Row) → FoundOk f
-    → ragged_size (elim f [ some r ↦ total_size r | none ↦ Size.Unknown ]) ≡ false
-    → ElemOk (typed_element (elim f [ some r ↦ total_size r | none ↦ Size.Unknown ]) given)
-    (typed_elem o name (elim f [ some r ↦ desc_enum r.decl.desc | none ↦ EnumOf.None ]))
-typed-ok o name true none k e = tt
-typed-ok o name false none k e = tt
-typed-ok o name given (some r) k e = by (total_size r) refl (desc_enum r.decl.desc) refl e
+    → ragged_size (elim f [ Some r ↦ total_size r | None ↦ Size.Unknown ]) ≡ false
+    → ElemOk (typed_element (elim f [ Some r ↦ total_size r | None ↦ Size.Unknown ]) given)
+    (typed_elem o name (elim f [ Some r ↦ desc_enum r.decl.desc | None ↦ None ]))
+typed-ok o name true None k e = tt
+typed-ok o name false None k e = tt
+typed-ok o name given (Some r) k e = by (total_size r) refl (desc_enum r.decl.desc) refl e
   where
-    by : (z : Size) → total_size r ≡ z → (d : EnumOf) → desc_enum r.decl.desc ≡ d → ragged_size z ≡ false
+    by : (z : Size) → total_size r ≡ z → (d : Option EnumKind) → desc_enum r.decl.desc ≡ d → ragged_size z ≡ false
         → ElemOk (typed_element z given) (typed_elem o name d)
-    by (Size.Static n) ez (EnumOf.Enum w true c) ed h =
-        let q : n ≡ w = static (sym ez ∙ k w true c ed) in
-        (whole n h, omega (arith, ap (λ (m : ℕ). m / 8) q))
+    by (Size.Static n) ez (Some kind) ed h = marked kind.is_open
       where
         static : {a b : ℕ} → Size.Static a ≡ Size.Static b → a ≡ b
         static p = cc
-    by (Size.Static n) ez (EnumOf.Enum w false c) ed h =
-        let q : n ≡ w = static (sym ez ∙ k w false c ed) in
-        (whole n h, omega (arith, ap (λ (m : ℕ). m / 8) q))
-      where
-        static : {a b : ℕ} → Size.Static a ≡ Size.Static b → a ≡ b
-        static p = cc
-    by (Size.Static n) ez EnumOf.None ed h = (whole n h, omega arith)
+
+        same : n ≡ kind.width
+        same = static (sym ez ∙ k kind ed)
+
+        marked : (b : Bool) → ElemOk (ElementSize.Static (n / 8)) (pick b (Elem.open_enum name o kind.width) (Elem.closed_enum name o kind.width))
+        marked true = (whole n h, omega (arith, ap (λ (m : ℕ). m / 8) same))
+        marked false = (whole n h, omega (arith, ap (λ (m : ℕ). m / 8) same))
+    by (Size.Static n) ez None ed h = (whole n h, omega arith)
     by Size.Dynamic ez d ed h = dynamic given
       where
         dynamic : (g : Bool) → ElemOk (typed_element Size.Dynamic g) (typed_elem o name d)
@@ -84,14 +81,14 @@ typed-ok o name given (some r) k e = by (total_size r) refl (desc_enum r.decl.de
         unknown true = tt
         unknown false = tt
 
-elem_ok : (c : Setting) → RowsOk c.scope → (id : Part) (width : MaybeNumber) (type : MaybePart)
+elem_ok : (c : Setting) → RowsOk c.scope → (id : Part) (width : Option ℕ) (type : Option Part)
     → ragged_array c.source c.scope width type ≡ false
     → ElemOk (element_size c.source c.scope c.fields id width type) (elem_of c width type)
-elem_ok c h id (MaybeNumber.Some w) type e = (whole w e, omega arith)
-elem_ok c h id MaybeNumber.None (MaybePart.Some type) e =
+elem_ok c h id (Some w) type e = (whole w e, omega arith)
+elem_ok c h id None (Some type) e =
     typed-ok c.options.endianness (written c type) (any_reference (is_element_size c.source id) c.fields) (lookup c.source c.scope type)
     (lookup-ok c.source c.scope type h) e
-elem_ok c h id MaybeNumber.None MaybePart.None e = tt
+elem_ok c h id None None e = tt
 
 -- ---- the parser's state
 
@@ -209,11 +206,11 @@ named-free : (m : Arrays) (id end : Text) → Free (named m id (end ++ text "_")
 named-free m id end nr =
     subst (λ (t : Text). Apart (prefix m ++ t) (chunk_name nr)) (append_assoc id end (text "_")) (free-ends (prefix m) (id ++ end) 95 (omega arith) nr)
 
-enum-spares : (c : Setting) (id type : Part) (e : EnumOf) (nr : ℕ) → Spares (chunk_name nr) (enum_kind (member c id) (written c type) e)
-enum-spares c id type (EnumOf.Enum w o f) nr =
-    spares-pick (chunk_name nr) (o || f) (Kind.open_enum (member c id) (written c type)) (Kind.closed_enum (member c id) (written c type))
+enum-spares : (c : Setting) (id type : Part) (e : Option EnumKind) (nr : ℕ) → Spares (chunk_name nr) (enum_kind (member c id) (written c type) e)
+enum-spares c id type (Some kind) nr =
+    spares-pick (chunk_name nr) (kind.is_open || kind.is_complete) (Kind.open_enum (member c id) (written c type)) (Kind.closed_enum (member c id) (written c type))
     (member-free c id nr) (member-free c id nr, λ m k. raw-free m k nr)
-enum-spares c id type EnumOf.None nr = member-free c id nr
+enum-spares c id type None nr = member-free c id nr
 
 kind-spares : (c : Setting) (d : FieldDesc) → DescFree c.source d → (nr : ℕ) → Spares (chunk_name nr) (kind_of c d)
 unfolding kind_of
@@ -265,9 +262,9 @@ boundary-ok shift e h = by (eqb shift 0)
     by true = h
     by false = tt
 
-trailing-ok : (m : MaybeNumber) (f : ℕ → Emit) → ((n : ℕ) → EmitOk (f n)) → EmitOk (on_trailing m f)
-trailing-ok MaybeNumber.None f h = tt
-trailing-ok (MaybeNumber.Some n) f h = h n
+trailing-ok : (m : Option ℕ) (f : ℕ → Emit) → ((n : ℕ) → EmitOk (f n)) → EmitOk (on_trailing m f)
+trailing-ok None f h = tt
+trailing-ok (Some n) f h = h n
 
 pick-ok : (b : Bool) (x y : Block) → Other x → Other y → Other (pick b x y)
 pick-ok true x y h k = h
@@ -279,9 +276,9 @@ typedef-ok c id type later Size.Dynamic = (tt, (refl, λ o. tt))
 typedef-ok c id type later Size.Unknown =
     trailing-ok (get_trailing_size c.options.trailing later) _ (λ n. pick-ok (ltb 0 n) _ _ (tt, (refl, λ o. tt)) (tt, (refl, λ o. tt)))
 
-enum_ok : (c : Setting) (cond : Part) (v : ℕ) (id type : Part) (e : EnumOf) → Other (optional_typedef c cond v id type e)
-enum_ok c cond v id type (EnumOf.Enum w is_open is_complete) = pick-ok is_open _ _ (tt, (refl, λ o. tt)) (tt, (refl, λ o. tt))
-enum_ok c cond v id type EnumOf.None = (tt, (refl, λ o. tt))
+enum_ok : (c : Setting) (cond : Part) (v : ℕ) (id type : Part) (e : Option EnumKind) → Other (optional_typedef c cond v id type e)
+enum_ok c cond v id type (Some kind) = pick-ok kind.is_open _ _ (tt, (refl, λ o. tt)) (tt, (refl, λ o. tt))
+enum_ok c cond v id type None = (tt, (refl, λ o. tt))
 
 optional-ok : (c : Setting) (cond : Part) (v : ℕ) (d : FieldDesc) → EmitOk (parse_optional_field c cond v d)
 unfolding parse_optional_field
@@ -314,9 +311,9 @@ payload-ok : (c : Setting) (shift : ℕ) (m : Modifier) (later : List Annotated)
 unfolding parse_payload_field_lite
 payload-ok c shift m later = boundary-ok shift _ (sized-ok c m later (has_payload_size c.source c.fields))
 
-padding-ok : (p : MaybeNumber) (m : Modifier) (w : ℕ) (a : Array) → ElemOk a.element_size a.elem → Other (with_padding p m w a)
-padding-ok MaybeNumber.None m w a h = (h, (refl, λ o. tt))
-padding-ok (MaybeNumber.Some n) m w a h = (h, (refl, λ o. tt))
+padding-ok : (p : Option ℕ) (m : Modifier) (w : ℕ) (a : Array) → ElemOk a.element_size a.elem → Other (with_padding p m w a)
+padding-ok None m w a h = (h, (refl, λ o. tt))
+padding-ok (Some n) m w a h = (h, (refl, λ o. tt))
 
 module _ (c : Setting) (rows : RowsOk c.scope) where
   other-ok : (shift : ℕ) (a : Annotated) (later : List Annotated) (b : Bool) (d : FieldDesc) → ragged_desc c.source c.scope b d ≡ false
@@ -343,12 +340,12 @@ module _ (c : Setting) (rows : RowsOk c.scope) where
   unfolding parse_unchecked
   unchecked-ok shift a later e = by a.field.cond
     where
-      by : (k : Cond) → EmitOk (elim k [
-        | Cond.None ↦ parse_other c shift a later a.field.desc
-        | Cond.Some id value ↦ parse_optional_field c id value a.field.desc
+      by : (k : Option Condition) → EmitOk (elim k [
+        | None ↦ parse_other c shift a later a.field.desc
+        | Some cond ↦ parse_optional_field c cond.id cond.value a.field.desc
       ])
-      by Cond.None = other-ok shift a later (is_optional a.field.cond) a.field.desc e
-      by (Cond.Some id value) = optional-ok c id value a.field.desc
+      by None = other-ok shift a later (is_optional a.field.cond) a.field.desc e
+      by (Some cond) = optional-ok c cond.id cond.value a.field.desc
 
   -- ---- all fields
 

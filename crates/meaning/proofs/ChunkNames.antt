@@ -1,6 +1,8 @@
 -- No name of an accepted record is `chunk` with a number, and no other variable of a bit field is: so nothing sets `chunk0`, `chunk1` and so on
 -- but their own lines. And no name has a `>`. From the record reader, name by name.
 -- Assumes nothing.
+use Rattle.std.specs.Prelude.{Some, None}
+use Rattle.definitions.specs.Record.{Read, key_of, key_at, part_of, word_of, name_of, is_found, digits_line, some_digits, digits_behind, is_forbidden, name_at, Declaration, RecordRead, read_record}
 use mathlib.Core.Path.{◌≡◌, refl, sym, ap, ◌∙◌, subst}
 use mathlib.Core.Bool.{Bool, true, false, ◌&&◌, ◌||◌}
 use mathlib.Core.List.{List, [], ◌∷◌, ◌++◌, append_assoc}
@@ -11,14 +13,11 @@ use lib.ListN.{length, take, drop}
 use lib.Seq.{drop-drop, take_at}
 use borrow.Author.Tests.{eqb-true, ltb-true, le-leb, lt-ltb, ne_eqb}
 use Rattle.definitions.specs.Bytes.{Text, text, any, part, is_digit, is_word, digit, digits_in, decimal}
-use Rattle.definitions.specs.Record.{key_of, key_at, part_of, word_of, name_of, is_found, digits_line, some_digits, digits_behind, is_forbidden, name_at, Declaration, RecordRead, read_record}
 use Rattle.definitions.specs.Blocks.{chunk_name, raw_name}
 use Rattle.definitions.specs.declared.Part.{Part}
 use Rattle.definitions.specs.declared.Raw.{Raw}
 use Rattle.definitions.specs.declared.FieldDesc.{FieldDesc}
 use Rattle.definitions.specs.declared.Field.{Field}
-use Rattle.definitions.specs.declared.Found.{Found}
-use Rattle.definitions.specs.declared.NameRead.{NameRead}
 use Rattle.lengths.proofs.Booleans.{impossible}
 use Rattle.lengths.proofs.Names.{NameIs, DescIs, FieldsAre, DeclarationsAre, RecordOk, record-ok}
 use Rattle.meaning.specs.Machine.{}
@@ -132,9 +131,9 @@ pub record Word (r : Text) (start at : ℕ) (n : Part) : Type 0 where
   -- it has no `>`
   pub arrowless : any (eqb 62) word ≡ false
 
-abbrev WordOf : Text → ℕ → ℕ → NameRead → Type 0
-WordOf r start at NameRead.Wrong = Unit {0}
-WordOf r start at (NameRead.Is n p) = Word r start at n
+abbrev WordOf : Text → ℕ → ℕ → Read Part → Type 0
+WordOf r start at None = Unit {0}
+WordOf r start at (Some (n, p)) = Word r start at n
 
 word_byte : (x : ℕ) → is_word x ≡ true → eqb 62 x ≡ false
 unfolding is_word is_digit
@@ -145,9 +144,9 @@ unfolding word_of
 word-is [] start k at = tt
 word-is (x ∷ r) start k at = by (word-is r start (k + 1) (at + 1)) (eqb x 10) refl (eqb k 32) (is_word x) refl
   where
-    more : is_word x ≡ true → (q : NameRead) → WordOf r start (at + 1) q → WordOf (x ∷ r) start at q
-    more f NameRead.Wrong h = tt
-    more f (NameRead.Is n p) h =
+    more : is_word x ≡ true → (q : Read Part) → WordOf r start (at + 1) q → WordOf (x ∷ r) start at q
+    more f None h = tt
+    more f (Some (n, p)) h =
         record {
           word = x ∷ h.word;
           rest = h.rest;
@@ -158,10 +157,10 @@ word-is (x ∷ r) start k at = by (word-is r start (k + 1) (at + 1)) (eqb x 10) 
 
     by : WordOf r start (at + 1) (word_of r start (k + 1) (at + 1)) → (b : Bool) → eqb x 10 ≡ b → (c d : Bool) → is_word x ≡ d
         → WordOf (x ∷ r) start at (elim b [
-          | true ↦ NameRead.Is (part_of start at) (at + 1)
+          | true ↦ Some (part_of start at, at + 1)
           | false ↦ elim c [
-            | true ↦ NameRead.Wrong
-            | false ↦ elim d [ true ↦ word_of r start (k + 1) (at + 1) | false ↦ NameRead.Wrong ]
+            | true ↦ None
+            | false ↦ elim d [ true ↦ word_of r start (k + 1) (at + 1) | false ↦ None ]
           ]
         ])
     by h true e c d f =
@@ -178,7 +177,7 @@ or-true false b e = e
 taken-chunk : (s : Text) (at nr : ℕ) (rest : Text) → drop at s ≡ chunk_name nr ++ (10 ∷ rest) → is_forbidden s at ≡ true
 unfolding is_forbidden key_of
 taken-chunk s at nr rest e =
-    let k : key_at s at (text "chunk") ≡ Found.At (at + 1 + 1 + 1 + 1 + 1) = found in
+    let k : key_at s at (text "chunk") ≡ Some (at + 1 + 1 + 1 + 1 + 1) = found in
     let d : drop (at + 1 + 1 + 1 + 1 + 1) s ≡ decimal nr ++ (10 ∷ rest) =
     ap (λ (n : ℕ). drop n s) five ∙ sym (drop-drop 5 at s) ∙ ap (drop 5) e in
     or-true (is_found (key_at s at (text "span\n")) || is_found (key_at s at (text "output\n"))) _
@@ -187,7 +186,7 @@ taken-chunk s at nr rest e =
     five : at + 1 + 1 + 1 + 1 + 1 ≡ at + 5
     five = omega arith
 
-    found : key_of (text "chunk") (drop at s) at ≡ Found.At (at + 1 + 1 + 1 + 1 + 1)
+    found : key_of (text "chunk") (drop at s) at ≡ Some (at + 1 + 1 + 1 + 1 + 1)
     found = ap (λ (r : Text). key_of (text "chunk") r at) e
 
 abbrev FreeName : Text → Part → Type 0
@@ -198,7 +197,7 @@ unfolding name_of
 name-word [] at = tt
 name-word (x ∷ r) at = by (is_digit x) (eqb x 10)
   where
-    by : (b c : Bool) → WordOf (x ∷ r) at at (elim b [ true ↦ NameRead.Wrong | false ↦ elim c [ true ↦ NameRead.Wrong | false ↦ word_of (x ∷ r) at 0 at ] ])
+    by : (b c : Bool) → WordOf (x ∷ r) at at (elim b [ true ↦ None | false ↦ elim c [ true ↦ None | false ↦ word_of (x ∷ r) at 0 at ] ])
     by true c = tt
     by false true = tt
     by false false = word-is (x ∷ r) at 0 at
@@ -215,9 +214,9 @@ name_free : (s : Text) (at : ℕ) → NameIs (FreeName s) (name_at s at)
 unfolding name_at
 name_free s at = by (is_forbidden s at) refl
   where
-    word : (q : NameRead) → is_forbidden s at ≡ false → WordOf (drop at s) at at q → NameIs (FreeName s) q
-    word NameRead.Wrong e w = tt
-    word (NameRead.Is n p) e w =
+    word : (q : Read Part) → is_forbidden s at ≡ false → WordOf (drop at s) at at q → NameIs (FreeName s) q
+    word None e w = tt
+    word (Some (n, p)) e w =
         let f : part s n ≡ w.word = part-word s at n w in
         λ nr.
         apart_by (part s n) (chunk_name nr)
@@ -227,7 +226,7 @@ name_free s at = by (is_forbidden s at) refl
         let z : ◌≡◌ {A = ℕ} 0 1 = cc in
         omega arith)
 
-    by : (b : Bool) → is_forbidden s at ≡ b → NameIs (FreeName s) (elim b [ true ↦ NameRead.Wrong | false ↦ name_of (drop at s) at ])
+    by : (b : Bool) → is_forbidden s at ≡ b → NameIs (FreeName s) (elim b [ true ↦ None | false ↦ name_of (drop at s) at ])
     by true e = tt
     by false e = word (name_of (drop at s) at) e (name-word (drop at s) at)
 
@@ -239,11 +238,11 @@ name-arrowless : (s : Text) (at : ℕ) → NameIs (Arrowless s) (name_at s at)
 unfolding name_at
 name-arrowless s at = by (is_forbidden s at)
   where
-    word : (q : NameRead) → WordOf (drop at s) at at q → NameIs (Arrowless s) q
-    word NameRead.Wrong w = tt
-    word (NameRead.Is n p) w = ap (any (eqb 62)) (part-word s at n w) ∙ w.arrowless
+    word : (q : Read Part) → WordOf (drop at s) at at q → NameIs (Arrowless s) q
+    word None w = tt
+    word (Some (n, p)) w = ap (any (eqb 62)) (part-word s at n w) ∙ w.arrowless
 
-    by : (b : Bool) → NameIs (Arrowless s) (elim b [ true ↦ NameRead.Wrong | false ↦ name_of (drop at s) at ])
+    by : (b : Bool) → NameIs (Arrowless s) (elim b [ true ↦ None | false ↦ name_of (drop at s) at ])
     by true = tt
     by false = word (name_of (drop at s) at) (name-word (drop at s) at)
 

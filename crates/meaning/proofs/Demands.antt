@@ -2,9 +2,9 @@
 -- The statements name `answer` and `program` (definitions: Answer, Blocks), `run` (specs/Machine), plain lines (specs/Plain), the reference's rule
 -- (specs/Rule), checked runs (specs/Runs) and places (specs/Places).
 -- Assumes nothing.
+use Rattle.std.specs.Prelude.{Some}
 use mathlib.Core.Bool.{true}
 use mathlib.Core.List.{List, ◌++◌}
-use mathlib.Core.Option.{some}
 use mathlib.Core.Path.{◌≡◌, subst}
 use Prim.Native.Nat.{ℕ, ◌+◌, ◌*◌, ◌/◌, ◌^◌, ◌<◌}
 use lib.ListN.{length, drop}
@@ -78,7 +78,7 @@ demand-3-of s h e bs l =
     }
 
 -- For every record that is accepted, and its target.
-pub demand-3 : (s : Text) (bs : List Block) → answer s ≡ accepted bs → (t : Target) → target_of s ≡ some t → Demand3 (setting s t) bs
+pub demand-3 : (s : Text) (bs : List Block) → answer s ≡ accepted bs → (t : Target) → target_of s ≡ Some t → Demand3 (setting s t) bs
 demand-3 s bs e t f = demand-3-of s t.head t.entry bs (grounds s bs e t f).lowered
 
 -- Stronger than asked: wherever a run of the lines has come, the line that is run next uses no number below zero but on the right of a `<`, and
@@ -111,11 +111,11 @@ bits_of s h e bs l d =
 
 -- For every record that is accepted, and every bit field of its target that stands in a group of whole octets and is no reserved one.
 pub bits : (s : Text) (bs : List Block) → answer s ≡ accepted bs
-    → (t : Target) → target_of s ≡ some t → (d : BitField (setting s t)) → Demand2Bits bs (setting s t) d
+    → (t : Target) → target_of s ≡ Some t → (d : BitField (setting s t)) → Demand2Bits bs (setting s t) d
 bits s bs e t f d = bits_of s t.head t.entry bs (grounds s bs e t f).lowered d
 
 -- An accepted record has a target.
-pub has-target : (s : Text) (bs : List Block) → answer s ≡ accepted bs → (t : Target) × (target_of s ≡ some t)
+pub has-target : (s : Text) (bs : List Block) → answer s ≡ accepted bs → (t : Target) × (target_of s ≡ Some t)
 has-target s bs e =
     let h = has-grounds s bs e in
     (h.0, h.1.is-target)

@@ -1,5 +1,6 @@
 -- When a text is no keyword: by its end, and by the list of a record's names.
 -- Assumes nothing.
+use Rattle.std.specs.Prelude.{Option, Some, None}
 use mathlib.Core.Bool.{Bool, true, false, ◌||◌}
 use mathlib.Core.List.{List, [], ◌∷◌, ◌++◌, append_assoc}
 use mathlib.Core.Path.{◌≡◌, refl, sym, ap, ◌∙◌, subst}
@@ -17,10 +18,9 @@ use Rattle.definitions.specs.Blocks.{raw, raw_name, chunk_name, prefix, named, b
 use Rattle.definitions.specs.declared.Arrays.{Arrays}
 use Rattle.definitions.specs.declared.Raw.{Raw}
 use Rattle.definitions.specs.declared.Part.{Part}
-use Rattle.definitions.specs.declared.MaybePart.{MaybePart}
 use Rattle.definitions.specs.declared.Head.{Head}
 use Rattle.definitions.specs.declared.FieldDesc.{FieldDesc}
-use Rattle.definitions.specs.declared.Cond.{Cond}
+use Rattle.definitions.specs.declared.Condition.{Condition}
 use Rattle.definitions.specs.declared.Field.{Field}
 use Rattle.lengths.proofs.Booleans.{impossible, neither}
 use Rattle.lengths.proofs.Names.{MaybeIs, DescIs, CondIs, FieldsAre, DeclarationsAre, RecordOk}
@@ -150,9 +150,9 @@ module _ (f : Part → Bool) (P Q : Part → Type 0) (holds : (n : Part) → f n
   two : (m n : Part) → any f (m ∷ n ∷ []) ≡ false → P m × P n → Q m × Q n
   two m n e h = let k = neither (f m) (any f (n ∷ [])) e in (holds m k.0 h.0, one n k.1 h.1)
 
-  maybe-is : (n : MaybePart) → any f (maybe_name n) ≡ false → MaybeIs P n → MaybeIs Q n
-  maybe-is MaybePart.None e h = tt
-  maybe-is (MaybePart.Some n) e h = one n e h
+  maybe-is : (n : Option Part) → any f (maybe_name n) ≡ false → MaybeIs P n → MaybeIs Q n
+  maybe-is None e h = tt
+  maybe-is (Some n) e h = one n e h
 
   desc-is : (d : FieldDesc) → any f (desc_names d) ≡ false → DescIs P d → DescIs Q d
   desc-is (FieldDesc.Checksum of) e h = one of e h
@@ -171,9 +171,9 @@ module _ (f : Part → Bool) (P Q : Part → Type 0) (holds : (n : Part) → f n
   desc-is (FieldDesc.Flag id) e h = one id e h
   desc-is (FieldDesc.Typedef id type) e h = two id type e h
 
-  cond-is : (c : Cond) → any f (cond_names c) ≡ false → CondIs P c → CondIs Q c
-  cond-is Cond.None e h = tt
-  cond-is (Cond.Some id value) e h = one id e h
+  cond-is : (c : Option Condition) → any f (cond_names c) ≡ false → CondIs P c → CondIs Q c
+  cond-is None e h = tt
+  cond-is (Some cond) e h = one cond.id e h
 
   fields-are : (fs : List Field) → any f (fields_names fs) ≡ false → FieldsAre P fs → FieldsAre Q fs
   fields-are [] e h = tt

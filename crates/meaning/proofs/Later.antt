@@ -1,5 +1,6 @@
 -- Each later field that is an array with a padding has its block, of that padded size, among those behind the payload's: `array_placed`.
 -- Assumes nothing.
+use Rattle.std.specs.Prelude.{Option, Some, None}
 use mathlib.Core.Path.{◌≡◌, refl, sym, ap, ◌∙◌, subst}
 use mathlib.Core.Bool.{Bool, true, false}
 use mathlib.Core.List.{List, [], ◌∷◌, ◌++◌, append_assoc}
@@ -10,10 +11,9 @@ use Rattle.definitions.specs.Bytes.{pick}
 use Rattle.definitions.specs.Sizes.{Annotated, is_array, is_bitfield}
 use Rattle.definitions.specs.Blocks.{Array, Block}
 use Rattle.definitions.specs.FieldParser.{Setting, FieldParser, Step, go, stop, and_then, check_code, parse_bit_field, Emit, appends, silent, refuses, is_array_field, parse_array_field, parse_optional_field, parse_other, is_bit, parse_unchecked, emitted, parse, parse_all, done, accepted, code_of}
-use Rattle.definitions.specs.declared.MaybeNumber.{MaybeNumber}
 use Rattle.definitions.specs.declared.Modifier.{Modifier}
 use Rattle.definitions.specs.declared.FieldDesc.{FieldDesc}
-use Rattle.definitions.specs.declared.Cond.{Cond}
+use Rattle.definitions.specs.declared.Condition.{Condition}
 use Rattle.lengths.proofs.Booleans.{impossible}
 use Rattle.meaning.specs.Payloads.{padded_bits, PaddedIn}
 use Rattle.meaning.proofs.Placing.{GrownBy, AnyBlocks, Grown, then_by, check-grown, parse-grown, all_grown, LoweredBehind}
@@ -83,7 +83,7 @@ module _ (n : ℕ) where
   emitted-gains q silent h = absurd h
   emitted-gains q (refuses why) h = absurd h
 
-  module _ (c : Setting) (a : Annotated) (later : List Annotated) (padded : a.padded_size ≡ MaybeNumber.Some n) where
+  module _ (c : Setting) (a : Annotated) (later : List Annotated) (padded : a.padded_size ≡ Some n) where
     -- no bit field, and it emits its block
     abbrev Emits : FieldDesc → Type 0
     Emits d = (is_bitfield c.source c.scope d ≡ false) × ((shift : ℕ) → IsPadded (parse_other c shift a later d))
@@ -101,7 +101,7 @@ module _ (n : ℕ) where
     array-emits (FieldDesc.FixedEnum type tag) e = impossible (cc)
     array-emits (FieldDesc.Reserved width) e = impossible (cc)
     array-emits (FieldDesc.Array id width type modifier size) e =
-        (refl, λ shift. subst (λ (m : MaybeNumber). IsPadded (parse_array_field c m id width type modifier size)) (sym padded) (_, _, _, refl))
+        (refl, λ shift. subst (λ (m : Option ℕ). IsPadded (parse_array_field c m id width type modifier size)) (sym padded) (_, _, _, refl))
     array-emits (FieldDesc.Scalar id width) e = impossible (cc)
     array-emits (FieldDesc.Flag id) e = impossible (cc)
     array-emits (FieldDesc.Typedef id type) e = impossible (cc)
@@ -110,23 +110,23 @@ module _ (n : ℕ) where
     unfolding parse is_bit parse_unchecked
     parse-gains p e = by a.field.cond e
       where
-        by : (k : Cond) → elim k as (λ _. Bool) [ Cond.None ↦ is_array a.field.desc | Cond.Some id value ↦ false ] ≡ true
-            → Gains p.code (elim (elim k as (λ _. Bool) [ Cond.None ↦ is_bitfield c.source c.scope a.field.desc | Cond.Some id value ↦ false ]) [
+        by : (k : Option Condition) → elim k as (λ _. Bool) [ None ↦ is_array a.field.desc | Some cond ↦ false ] ≡ true
+            → Gains p.code (elim (elim k as (λ _. Bool) [ None ↦ is_bitfield c.source c.scope a.field.desc | Some cond ↦ false ]) [
               | true ↦ parse_bit_field c p a
               | false ↦ and_then (check_code c p) λ q. emitted q (elim k [
-                | Cond.None ↦ parse_other c q.shift a later a.field.desc
-                | Cond.Some id value ↦ parse_optional_field c id value a.field.desc
+                | None ↦ parse_other c q.shift a later a.field.desc
+                | Some cond ↦ parse_optional_field c cond.id cond.value a.field.desc
               ])
             ])
-        by Cond.None f =
+        by None f =
             let h = array-emits a.field.desc f in
             rw h.0
             (grown-gains p.code (check_code c p) _ (check-grown c p)
             (λ q. emitted-gains q (parse_other c q.shift a later a.field.desc) (h.1 q.shift)))
-        by (Cond.Some id value) f = impossible (cc)
+        by (Some cond) f = impossible (cc)
 
   all-gains : (c : Setting) (p : FieldParser) (between : List Annotated) (a : Annotated) (behind : List Annotated)
-      → is_array_field a.field ≡ true → a.padded_size ≡ MaybeNumber.Some n → Gains p.code (parse_all c p (between ++ (a ∷ behind)))
+      → is_array_field a.field ≡ true → a.padded_size ≡ Some n → Gains p.code (parse_all c p (between ++ (a ∷ behind)))
   unfolding parse_all
   all-gains c p [] a behind e f = gains-grown p.code (parse c p a behind) _ (parse-gains c a behind f p e) (λ q. all_grown c q behind)
   all-gains c p (b ∷ between) a behind e f =
@@ -139,16 +139,16 @@ module _ (n : ℕ) where
 same-behind : (a s t : List Block) → a ++ s ≡ a ++ t → s ≡ t
 same-behind a s t e = sym (drop_at a s (length a) refl) ∙ ap (drop (length a)) e ∙ drop_at a t (length a) refl
 
-array-bits : (n : ℕ) (a : Annotated) → padded_bits a ≡ MaybeNumber.Some n → (is_array_field a.field ≡ true) × (a.padded_size ≡ MaybeNumber.Some n)
+array-bits : (n : ℕ) (a : Annotated) → padded_bits a ≡ Some n → (is_array_field a.field ≡ true) × (a.padded_size ≡ Some n)
 array-bits n a e = by (is_array_field a.field) e
   where
-    by : (b : Bool) → pick b a.padded_size MaybeNumber.None ≡ MaybeNumber.Some n → (b ≡ true) × (a.padded_size ≡ MaybeNumber.Some n)
+    by : (b : Bool) → pick b a.padded_size None ≡ Some n → (b ≡ true) × (a.padded_size ≡ Some n)
     by true f = (refl, f)
     by false f = impossible (cc)
 
 pub array_placed : (c : Setting) (later : List Annotated) (bs : List Block) (l : LoweredBehind c later bs)
     → (between : List Annotated) (a : Annotated) (behind : List Annotated) → later ≡ between ++ (a ∷ behind)
-    → (n : ℕ) → padded_bits a ≡ MaybeNumber.Some n → Has n l.post
+    → (n : ℕ) → padded_bits a ≡ Some n → Has n l.post
 array_placed c later bs l between a behind are n e =
     by (and_then (parse_all c l.parser later) (done c))
     (gains-grown n l.parser.code (parse_all c l.parser later) (done c)

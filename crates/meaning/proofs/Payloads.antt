@@ -1,11 +1,11 @@
 -- With `trailing=padded`, a payload or body without a size field ends so many bytes before the frame's end as the later fields have, and
 -- elements and padding of a later array are behind that end: `payload-ends`. With any head line, an array takes its padded size at least: `array-takes`.
 -- Assumes nothing.
+use Rattle.std.specs.Prelude.{Some}
 use mathlib.Core.Path.{◌≡◌, refl, sym, ap, ◌∙◌, subst}
 use mathlib.Core.Bool.{Bool, true, false}
 use mathlib.Core.List.{List, [], ◌∷◌, ◌++◌}
-use mathlib.Core.Option.{some}
-use Prim.Native.Nat.{ℕ, ◌+◌, ◌-◌, ◌/◌, ◌≤◌}
+use Prim.Native.Nat.{ℕ, ◌+◌, ◌/◌, ◌≤◌}
 use native.Mathlib.Omega.{arith}
 use lib.Dec.{ltb}
 use lib.ListN.{length, take, take-append-drop}
@@ -16,7 +16,6 @@ use Rattle.definitions.specs.Sizes.{Annotated, is_payload, has_payload_size}
 use Rattle.definitions.specs.Blocks.{span, body, Block, block_lines, program}
 use Rattle.definitions.specs.FieldParser.{Setting, FieldParser, and_then, get_trailing_size, payload_name, unsized_payload, parse_all, done, accepted, code_of, lower_fields}
 use Rattle.definitions.specs.Answer.{answer}
-use Rattle.definitions.specs.declared.MaybeNumber.{MaybeNumber}
 use Rattle.definitions.specs.declared.Trailing.{Trailing}
 use Rattle.meaning.specs.Machine.{Reply, State, start, ended, running, run}
 use Rattle.meaning.specs.Runs.{ComeTo, Target, target_of, setting}
@@ -54,7 +53,7 @@ pub record PayloadEnds (bs : List Block) (c : Setting) (later : List Annotated) 
       → EndsBefore bs post (payload_name c (text "_")) (bits / 8) frame (start frame vars replies) k
   -- Each of them that is an array with a padding, of n bits with it, has its block among `post`.
   pub array_placed : (between : List Annotated) (a : Annotated) (behind : List Annotated) → later ≡ between ++ (a ∷ behind)
-      → (n : ℕ) → padded_bits a ≡ MaybeNumber.Some n → (d : PaddedIn post) × (d.bytes ≡ n / 8)
+      → (n : ℕ) → padded_bits a ≡ Some n → (d : PaddedIn post) × (d.bytes ≡ n / 8)
   -- Elements and padding of a later array are behind the payload's end: in every frame whose run has come behind the padding, the array takes its padded
   -- size at least, and all that it takes are of the last `bits / 8` bytes. A run that has ended has come there: `ended-behind`.
   pub array_behind : (a : PaddedIn post) (frame : List ℕ) (vars : Text → ℕ) (replies : List Reply) (k : ℕ)
@@ -200,7 +199,7 @@ module _ (s : Text) (bs : List Block) (e : answer s ≡ accepted bs) (t : Target
 
 -- For every record that is accepted, and a payload or body of its target without a size field.
 pub payload-ends : (s : Text) (bs : List Block) → answer s ≡ accepted bs
-    → (t : Target) → target_of s ≡ some t → t.head.options.trailing ≡ Trailing.Padded
+    → (t : Target) → target_of s ≡ Some t → t.head.options.trailing ≡ Trailing.Padded
     → (before : List Annotated) (a : Annotated) (later : List Annotated) → t.entry.fields ≡ before ++ (a ∷ later)
     → is_payload a.field.desc ≡ true → has_payload_size s t.entry.declaration.fields ≡ false
     → PayloadEnds bs (setting s t) later
@@ -213,7 +212,7 @@ payload-ends s bs e t f mode before a later are payload unsized =
     from p =
         let h =
         counted-bits 0 p.placed.bits later
-        (subst (λ (m : Trailing). get_trailing_size m later ≡ MaybeNumber.Some p.placed.bits) mode p.placed.counted) in
+        (subst (λ (m : Trailing). get_trailing_size m later ≡ Some p.placed.bits) mode p.placed.counted) in
         record {
           bits = p.placed.bits;
           have-bits = subst (HaveBits later) (omega (arith, h.2)) h.1;

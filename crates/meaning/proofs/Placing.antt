@@ -1,6 +1,7 @@
 -- Where the block of a payload without a size field stands in an answer: the code of the parser only grows, and the payload's block counts what the
 -- fields behind it come to.
 -- Assumes nothing.
+use Rattle.std.specs.Prelude.{Option, Some, None}
 use mathlib.Core.Path.{◌≡◌, refl, sym, ap, ◌∙◌, subst}
 use mathlib.Core.Bool.{Bool, true, false}
 use mathlib.Core.List.{List, [], ◌∷◌, ◌++◌, append_assoc, append-nil}
@@ -11,11 +12,10 @@ use Rattle.definitions.specs.Bytes.{text, pick}
 use Rattle.definitions.specs.Sizes.{Annotated, is_payload, has_payload_size, is_bitfield, static_width, outer_size}
 use Rattle.definitions.specs.Blocks.{Bit, Chunk, Block}
 use Rattle.definitions.specs.FieldParser.{Setting, FieldParser, Step, go, stop, and_then, new, flushed, check_code, bit_of, open_chunk, close_chunk, parse_bit_field, Emit, appends, silent, refuses, is_array_field, later_size, trailing_from, get_trailing_size, on_trailing, parse_optional_field, payload_name, unsized_payload, payload_by_size, parse_payload_field_lite, parse_other, is_bit, parse_unchecked, emitted, parse, parse_all, done, Outcome, accepted, code_of, lower_fields}
-use Rattle.definitions.specs.declared.MaybeNumber.{MaybeNumber}
 use Rattle.definitions.specs.declared.Modifier.{Modifier}
 use Rattle.definitions.specs.declared.Trailing.{Trailing}
 use Rattle.definitions.specs.declared.FieldDesc.{FieldDesc}
-use Rattle.definitions.specs.declared.Cond.{Cond}
+use Rattle.definitions.specs.declared.Condition.{Condition}
 use Rattle.definitions.specs.declared.Field.{Field}
 use Rattle.definitions.specs.declared.Size.{Size}
 use Rattle.definitions.specs.declared.Refusal.{Refusal}
@@ -133,15 +133,15 @@ no-bit : (c : Setting) (f : Field) → is_payload f.desc ≡ true → is_bit c f
 unfolding is_bit
 no-bit c f e = by f.cond
   where
-    by : (k : Cond) → elim k as (λ _. Bool) [ Cond.None ↦ is_bitfield c.source c.scope f.desc | Cond.Some id value ↦ false ] ≡ false
-    by Cond.None = payload-by (λ d. is_bitfield c.source c.scope d ≡ false) refl (λ m. refl) f.desc e
-    by (Cond.Some id value) = refl
+    by : (k : Option Condition) → elim k as (λ _. Bool) [ None ↦ is_bitfield c.source c.scope f.desc | Some cond ↦ false ] ≡ false
+    by None = payload-by (λ d. is_bitfield c.source c.scope d ≡ false) refl (λ m. refl) f.desc e
+    by (Some cond) = refl
 
 module _ (c : Setting) (later : List Annotated) where
   -- behind the payload: its block is the last, and counts what the later fields come to
   pub record Placed (q : FieldParser) : Type 0 where
     pub bits : ℕ
-    pub counted : get_trailing_size c.options.trailing later ≡ MaybeNumber.Some bits
+    pub counted : get_trailing_size c.options.trailing later ≡ Some bits
     pub pre : List Block
     pub code_is : q.code ≡ pre ++ (unsized_payload (payload_name c (text "_")) bits ∷ [])
 
@@ -156,7 +156,7 @@ module _ (c : Setting) (later : List Annotated) where
   -- the block, or a refusal
   abbrev IsPayload : Emit → Type 0
   IsPayload (appends b) =
-      (bits : ℕ) × (get_trailing_size c.options.trailing later ≡ MaybeNumber.Some bits) × (b ≡ unsized_payload (payload_name c (text "_")) bits)
+      (bits : ℕ) × (get_trailing_size c.options.trailing later ≡ Some bits) × (b ≡ unsized_payload (payload_name c (text "_")) bits)
   IsPayload silent = ⊥
   IsPayload (refuses why) = Unit {0}
 
@@ -195,10 +195,10 @@ module _ (c : Setting) (later : List Annotated) where
     unfolding parse_payload_field_lite
     lite-payload shift m = bounded (eqb shift 0)
       where
-        trailing : (n : MaybeNumber) → get_trailing_size c.options.trailing later ≡ n
+        trailing : (n : Option ℕ) → get_trailing_size c.options.trailing later ≡ n
             → IsPayload (on_trailing n λ bits. appends (unsized_payload (payload_name c (text "_")) bits))
-        trailing MaybeNumber.None e = tt
-        trailing (MaybeNumber.Some bits) e = (bits, e, refl)
+        trailing None e = tt
+        trailing (Some bits) e = (bits, e, refl)
 
         bounded : (b : Bool)
             → IsPayload (elim b [
@@ -212,15 +212,15 @@ module _ (c : Setting) (later : List Annotated) where
     unfolding parse_unchecked parse_other parse_optional_field
     unchecked-payload shift a e = by a.field.cond
       where
-        by : (k : Cond)
+        by : (k : Option Condition)
             → IsPayload (elim k [
-              | Cond.None ↦ parse_other c shift a later a.field.desc
-              | Cond.Some id value ↦ parse_optional_field c id value a.field.desc
+              | None ↦ parse_other c shift a later a.field.desc
+              | Some cond ↦ parse_optional_field c cond.id cond.value a.field.desc
             ])
-        by Cond.None =
+        by None =
             payload-by (λ d. IsPayload (parse_other c shift a later d)) (lite-payload shift Modifier.None) (λ m. lite-payload shift m)
             a.field.desc e
-        by (Cond.Some id value) = payload-by (λ d. IsPayload (parse_optional_field c id value d)) tt (λ m. tt) a.field.desc e
+        by (Some cond) = payload-by (λ d. IsPayload (parse_optional_field c cond.id cond.value d)) tt (λ m. tt) a.field.desc e
 
     payload-placed : (p : FieldParser) (a : Annotated) → is_payload a.field.desc ≡ true → PlacedStep (parse c p a later)
     unfolding parse
@@ -262,33 +262,33 @@ abbrev Behind : ℕ → ℕ → List Annotated → Type 0
 Behind sum n later = (k : ℕ) × HaveBits later k × (sum + k ≡ n)
 
 module _ (sum n : ℕ) (a : Annotated) (later : List Annotated)
-    (rest : (m : ℕ) → trailing_from Trailing.Padded (sum + m) later ≡ MaybeNumber.Some n → Behind (sum + m) n later) where
-  abbrev on_size : Size → MaybeNumber
-  on_size z = elim z as (λ _. MaybeNumber) [
+    (rest : (m : ℕ) → trailing_from Trailing.Padded (sum + m) later ≡ Some n → Behind (sum + m) n later) where
+  abbrev on_size : Size → Option ℕ
+  on_size z = elim z as (λ _. Option ℕ) [
     | Size.Static bits ↦ trailing_from Trailing.Padded (sum + bits) later
-    | Size.Dynamic ↦ MaybeNumber.None
-    | Size.Unknown ↦ MaybeNumber.None
+    | Size.Dynamic ↦ None
+    | Size.Unknown ↦ None
   ]
 
-  static-behind : padded_bits a ≡ MaybeNumber.None → (z : Size) → a.field_size ≡ z → on_size z ≡ MaybeNumber.Some n → Behind sum n (a ∷ later)
+  static-behind : padded_bits a ≡ None → (z : Size) → a.field_size ≡ z → on_size z ≡ Some n → Behind sum n (a ∷ later)
   static-behind p (Size.Static m) z e =
       let h = rest m e in
       (m + h.0, HaveBits.static p z h.1, omega (arith, h.2))
   static-behind p Size.Dynamic z e = impossible (cc)
   static-behind p Size.Unknown z e = impossible (cc)
 
-  padded-is : (b : Bool) → is_array_field a.field ≡ b → padded_bits a ≡ pick b a.padded_size MaybeNumber.None
-  padded-is b f = ap (λ (d : Bool). pick d a.padded_size MaybeNumber.None) f
+  padded-is : (b : Bool) → is_array_field a.field ≡ b → padded_bits a ≡ pick b a.padded_size None
+  padded-is b f = ap (λ (d : Bool). pick d a.padded_size None) f
 
-  field-behind : (b : Bool) → is_array_field a.field ≡ b → (m : MaybeNumber) → a.padded_size ≡ m
-      → on_size (pick b (outer_size a.field_size m) a.field_size) ≡ MaybeNumber.Some n → Behind sum n (a ∷ later)
-  field-behind true f (MaybeNumber.Some m) g e =
+  field-behind : (b : Bool) → is_array_field a.field ≡ b → (m : Option ℕ) → a.padded_size ≡ m
+      → on_size (pick b (outer_size a.field_size m) a.field_size) ≡ Some n → Behind sum n (a ∷ later)
+  field-behind true f (Some m) g e =
       let h = rest m e in
       (m + h.0, HaveBits.padded (padded-is true f ∙ g) h.1, omega (arith, h.2))
-  field-behind true f MaybeNumber.None g e = static-behind (padded-is true f ∙ g) a.field_size refl e
+  field-behind true f None g e = static-behind (padded-is true f ∙ g) a.field_size refl e
   field-behind false f m g e = static-behind (padded-is false f) a.field_size refl e
 
-pub counted-bits : (sum n : ℕ) (later : List Annotated) → trailing_from Trailing.Padded sum later ≡ MaybeNumber.Some n → Behind sum n later
+pub counted-bits : (sum n : ℕ) (later : List Annotated) → trailing_from Trailing.Padded sum later ≡ Some n → Behind sum n later
 unfolding trailing_from later_size
 counted-bits sum n [] e =
     let f : sum ≡ n = cc in

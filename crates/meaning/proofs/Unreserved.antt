@@ -1,9 +1,9 @@
 -- What each text in the blocks of an accepted record is: a name of the record, a variable that ends in `_`, or empty. So none is a keyword: the record's
 -- own names are none by refusal 16, the variables by their ends. Read `blocks-names-by` and `blocks-names` at the end first.
 -- Assumes nothing.
+use Rattle.std.specs.Prelude.{Option, Some, None}
 use mathlib.Core.Bool.{Bool, true, false, ◌||◌}
 use mathlib.Core.List.{List, [], ◌∷◌, ◌++◌}
-use mathlib.Core.Option.{Option, some}
 use mathlib.Core.Path.{◌≡◌, refl, sym, ap, ◌∙◌, subst}
 use Prim.Native.Nat.{ℕ, ◌+◌, ◌%◌}
 use lib.Dec.{ltb, eqb}
@@ -14,15 +14,13 @@ use Rattle.definitions.specs.Sizes.{Row, Annotated, enum_of, has_payload_size, s
 use Rattle.definitions.specs.Refusals.{record_names, is_target}
 use Rattle.definitions.specs.Blocks.{Kind, Bit, Chunk, named, Elem, Array, Block}
 use Rattle.definitions.specs.FieldParser.{Setting, FieldParser, Step, go, stop, and_then, new, flushed, check_code, written, member, field_name, is_cond_for, enum_kind, kind_of, bit_of, open_chunk, close_chunk, parse_bit_field, Emit, appends, silent, refuses, on_boundary, on_trailing, get_trailing_size, typedef_by_size, parse_typedef_field, optional_typedef, parse_optional_field, payload_name, payload_by_size, parse_payload_field_lite, typed_elem, elem_of, type_name, with_padding, parse_array_field, parse_other, is_bit, parse_unchecked, emitted, parse, parse_all, done, Outcome, refused, accepted, code_of, lower_fields}
-use Rattle.definitions.specs.declared.EnumOf.{EnumOf}
+use Rattle.definitions.specs.declared.EnumKind.{EnumKind}
 use Rattle.definitions.specs.declared.Part.{Part}
-use Rattle.definitions.specs.declared.MaybePart.{MaybePart}
-use Rattle.definitions.specs.declared.MaybeNumber.{MaybeNumber}
 use Rattle.definitions.specs.declared.Modifier.{Modifier}
 use Rattle.definitions.specs.declared.Arrays.{Arrays}
 use Rattle.definitions.specs.declared.EndiannessValue.{EndiannessValue}
 use Rattle.definitions.specs.declared.FieldDesc.{FieldDesc}
-use Rattle.definitions.specs.declared.Cond.{Cond}
+use Rattle.definitions.specs.declared.Condition.{Condition}
 use Rattle.definitions.specs.declared.Size.{Size}
 use Rattle.definitions.specs.declared.Head.{Head}
 use Rattle.definitions.specs.declared.Refusal.{Refusal}
@@ -126,7 +124,7 @@ module _ (P : Text → Type 0) where
   -- ---- bit fields
 
   -- where P holds of what ends in `_`, of the type of an element that has a width, which is empty, and of each name of the target's fields
-  module _ (ended : (m : Arrays) (id end : Text) → P (named m id (end ++ text "_"))) (none : P []) (c : Setting) where
+  module _ (ended : (m : Arrays) (id end : Text) → P (named m id (end ++ text "_"))) (empty : P []) (c : Setting) where
     abbrev Good : Part → Type 0
     Good n = P (part c.source n)
 
@@ -137,11 +135,11 @@ module _ (P : Text → Type 0) where
     member-free : (id : Part) → P (member c id)
     member-free id = ended c.options.arrays (written c id) []
 
-    enum-names : (id type : Part) (e : EnumOf) → Good type → KindNames (enum_kind (member c id) (written c type) e)
-    enum-names id type (EnumOf.Enum w is_open is_complete) k =
-        pick-kind (is_open || is_complete) (Kind.open_enum (member c id) (written c type)) (Kind.closed_enum (member c id) (written c type))
+    enum-names : (id type : Part) (e : Option EnumKind) → Good type → KindNames (enum_kind (member c id) (written c type) e)
+    enum-names id type (Some kind) k =
+        pick-kind (kind.is_open || kind.is_complete) (Kind.open_enum (member c id) (written c type)) (Kind.closed_enum (member c id) (written c type))
         (member-free id, k) (member-free id, k)
-    enum-names id type EnumOf.None k = member-free id
+    enum-names id type None k = member-free id
 
     kind-names : (d : FieldDesc) → DescIs Good d → KindNames (kind_of c d)
     unfolding kind_of
@@ -201,9 +199,9 @@ module _ (P : Text → Type 0) where
         by true = h
         by false = tt
 
-    trailing-names : (m : MaybeNumber) (f : ℕ → Emit) → ((n : ℕ) → EmitNames (f n)) → EmitNames (on_trailing m f)
-    trailing-names MaybeNumber.None f h = tt
-    trailing-names (MaybeNumber.Some n) f h = h n
+    trailing-names : (m : Option ℕ) (f : ℕ → Emit) → ((n : ℕ) → EmitNames (f n)) → EmitNames (on_trailing m f)
+    trailing-names None f h = tt
+    trailing-names (Some n) f h = h n
 
     pick-block : (b : Bool) (x y : Block) → BlockNames x → BlockNames y → BlockNames (pick b x y)
     pick-block true x y h k = h
@@ -215,9 +213,9 @@ module _ (P : Text → Type 0) where
     typedef-names id type later Size.Unknown k =
         trailing-names (get_trailing_size c.options.trailing later) _ (λ n. pick-block (ltb 0 n) _ _ (k, member-free id) (k, member-free id))
 
-    optional-enum : (cond : Part) (v : ℕ) (id type : Part) (e : EnumOf) → Good cond → Good type → BlockNames (optional_typedef c cond v id type e)
-    optional-enum cond v id type (EnumOf.Enum w is_open is_complete) h k = pick-block is_open _ _ (h, member-free id, k) (h, member-free id, k)
-    optional-enum cond v id type EnumOf.None h k = (h, member-free id, k)
+    optional-enum : (cond : Part) (v : ℕ) (id type : Part) (e : Option EnumKind) → Good cond → Good type → BlockNames (optional_typedef c cond v id type e)
+    optional-enum cond v id type (Some kind) h k = pick-block kind.is_open _ _ (h, member-free id, k) (h, member-free id, k)
+    optional-enum cond v id type None h k = (h, member-free id, k)
 
     optional-names : (cond : Part) (v : ℕ) (d : FieldDesc) → Good cond → DescIs Good d → EmitNames (parse_optional_field c cond v d)
     unfolding parse_optional_field
@@ -247,23 +245,26 @@ module _ (P : Text → Type 0) where
     unfolding parse_payload_field_lite
     payload-names shift m later = boundary-names shift _ (sized-names m later (has_payload_size c.source c.fields))
 
-    type-free : (type : MaybePart) → MaybeIs Good type → P (type_name c type)
-    type-free MaybePart.None k = none
-    type-free (MaybePart.Some type) k = k
+    type-free : (type : Option Part) → MaybeIs Good type → P (type_name c type)
+    type-free None k = empty
+    type-free (Some type) k = k
 
-    typed-names : (order : EndiannessValue) (type : Text) (e : EnumOf) → P type → ElemNames (typed_elem order type e)
-    typed-names order type (EnumOf.Enum w true is_complete) k = k
-    typed-names order type (EnumOf.Enum w false is_complete) k = k
-    typed-names order type EnumOf.None k = k
+    typed-names : (order : EndiannessValue) (type : Text) (e : Option EnumKind) → P type → ElemNames (typed_elem order type e)
+    typed-names order type (Some kind) k = marked kind.is_open
+      where
+        marked : (b : Bool) → ElemNames (pick b (Elem.open_enum type order kind.width) (Elem.closed_enum type order kind.width))
+        marked true = k
+        marked false = k
+    typed-names order type None k = k
 
-    elem-names : (width : MaybeNumber) (type : MaybePart) → MaybeIs Good type → ElemNames (elem_of c width type)
-    elem-names (MaybeNumber.Some w) type k = tt
-    elem-names MaybeNumber.None (MaybePart.Some type) k = typed-names c.options.endianness (written c type) (enum_of c.source c.scope type) k
-    elem-names MaybeNumber.None MaybePart.None k = none
+    elem-names : (width : Option ℕ) (type : Option Part) → MaybeIs Good type → ElemNames (elem_of c width type)
+    elem-names (Some w) type k = tt
+    elem-names None (Some type) k = typed-names c.options.endianness (written c type) (enum_of c.source c.scope type) k
+    elem-names None None k = empty
 
-    padding-names : (p : MaybeNumber) (m : Modifier) (w : ℕ) (a : Array) → ArrayNames a → BlockNames (with_padding p m w a)
-    padding-names MaybeNumber.None m w a h = h
-    padding-names (MaybeNumber.Some n) m w a h = h
+    padding-names : (p : Option ℕ) (m : Modifier) (w : ℕ) (a : Array) → ArrayNames a → BlockNames (with_padding p m w a)
+    padding-names None m w a h = h
+    padding-names (Some n) m w a h = h
 
     other-names : (shift : ℕ) (a : Annotated) (later : List Annotated) (d : FieldDesc) → DescIs Good d → EmitNames (parse_other c shift a later d)
     unfolding parse_other parse_array_field parse_typedef_field
@@ -288,12 +289,12 @@ module _ (P : Text → Type 0) where
     unfolding parse_unchecked
     unchecked-names shift a later h k = by a.field.cond k
       where
-        by : (d : Cond) → CondIs Good d → EmitNames (elim d [
-          | Cond.None ↦ parse_other c shift a later a.field.desc
-          | Cond.Some id value ↦ parse_optional_field c id value a.field.desc
+        by : (d : Option Condition) → CondIs Good d → EmitNames (elim d [
+          | None ↦ parse_other c shift a later a.field.desc
+          | Some cond ↦ parse_optional_field c cond.id cond.value a.field.desc
         ])
-        by Cond.None g = other-names shift a later a.field.desc h
-        by (Cond.Some id value) g = optional-names id value a.field.desc g h
+        by None g = other-names shift a later a.field.desc h
+        by (Some cond) g = optional-names cond.id cond.value a.field.desc g h
 
     emitted-free : (p : FieldParser) (e : Emit) → Free p → EmitNames e → FreeStep (emitted p e)
     emitted-free p (appends b) g h = record { code = blocks-snoc p.code b g.code h; pending = g.pending; opened = g.opened }
@@ -340,32 +341,32 @@ module _ (P : Text → Type 0) where
 
 -- the names of the target's fields are names of the record
 target-names : (Q : Part → Type 0) (s : Text) (h : Head) (rows : List Row) (ds : List Declaration) → DeclarationsAre Q ds
-    → (t : Target) → first_target s h (annotate_from s rows ds) ≡ some t → FieldsAre Q t.entry.declaration.fields
+    → (t : Target) → first_target s h (annotate_from s rows ds) ≡ Some t → FieldsAre Q t.entry.declaration.fields
 unfolding first_target annotate_from
 target-names Q s h rows [] k t e = impossible (cc)
 target-names Q s h rows (d ∷ ds) k t e =
     by (target-names Q s h (rows ++ ((annotate_decl s rows d).row ∷ [])) ds k.1 t) (is_target s h (annotate_decl s rows d)) e
   where
-    by : (first_target s h (annotate_from s (rows ++ ((annotate_decl s rows d).row ∷ [])) ds) ≡ some t → FieldsAre Q t.entry.declaration.fields)
+    by : (first_target s h (annotate_from s (rows ++ ((annotate_decl s rows d).row ∷ [])) ds) ≡ Some t → FieldsAre Q t.entry.declaration.fields)
         → (b : Bool)
         → (elim b as (λ _. Option Target) [
-          | true ↦ some (record { head = h; entry = annotate_decl s rows d })
+          | true ↦ Some (record { head = h; entry = annotate_decl s rows d })
           | false ↦ first_target s h (annotate_from s (rows ++ ((annotate_decl s rows d).row ∷ [])) ds)
-        ]) ≡ some t
+        ]) ≡ Some t
         → FieldsAre Q t.entry.declaration.fields
     by more true f = subst (λ (u : Target). FieldsAre Q u.entry.declaration.fields) (same_target f) k.0
     by more false f = more f
 
 -- so what holds of each name of the record holds of each text of its blocks
-module _ (P : Text → Type 0) (ended : (m : Arrays) (id end : Text) → P (named m id (end ++ text "_"))) (none : P [])
+module _ (P : Text → Type 0) (ended : (m : Arrays) (id end : Text) → P (named m id (end ++ text "_"))) (empty : P [])
     (s : Text) (bs : List Block) (e : answer s ≡ accepted bs) (h : Head) (ds : List Declaration) (r : read_record s ≡ record_is h ds) where
   all-names : DeclarationsAre (λ n. P (part s n)) ds → BlocksNames P bs
   all-names k =
       let g = has-grounds s bs e in
       let names : FieldsAre (λ n. P (part s n)) g.0.entry.declaration.fields =
       target-names (λ n. P (part s n)) s h [] ds k g.0 (ap (target_in s) (sym r) ∙ g.1.is-target) in
-      subst (OutcomeNames P ended none (setting s g.0)) g.1.lowered.lowers
-      (lower-names P ended none (setting s g.0) g.0.entry.fields (subst (FieldsAre (λ n. P (part s n))) (sym g.1.lowered.ok.fields-are) names))
+      subst (OutcomeNames P ended empty (setting s g.0)) g.1.lowered.lowers
+      (lower-names P ended empty (setting s g.0) g.0.entry.fields (subst (FieldsAre (λ n. P (part s n))) (sym g.1.lowered.ok.fields-are) names))
 
 -- by a test that no name of the record passes
 pub blocks-names-by : (P : Text → Type 0) (f : Text → Bool) → ((t : Text) → f t ≡ false → P t)
@@ -373,8 +374,8 @@ pub blocks-names-by : (P : Text → Type 0) (f : Text → Bool) → ((t : Text) 
     → (s : Text) (bs : List Block) → answer s ≡ accepted bs
     → (h : Head) (ds : List Declaration) → read_record s ≡ record_is h ds → any (λ (n : Part). f (part s n)) (record_names h ds) ≡ false
     → BlocksNames P bs
-blocks-names-by P f holds ended none s bs e h ds r k =
-    all-names P ended none s bs e h ds r
+blocks-names-by P f holds ended empty s bs e h ds r k =
+    all-names P ended empty s bs e h ds r
     (names-are s h ds r (λ n. f (part s n)) (λ n. P (part s n)) (λ n g _. holds (part s n) g) k)
 
 -- no keyword

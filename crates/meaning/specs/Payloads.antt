@@ -1,26 +1,25 @@
 -- Where a payload or body without a size field ends under the head line `trailing=padded` (document 02, Card 3): so many bytes before the frame's end as
 -- the later fields have, an array with a padding its padded size. And what such an array takes: elements and padding together, behind that end.
 -- Assumes nothing.
-use Rattle.std.specs.Prelude.{◌≡◌, List, [], ◌∷◌, ◌++◌, ℕ, ◌+◌, ◌≤◌, length, drop}
+use Rattle.std.specs.Prelude.{Option, Some, None, ◌≡◌, List, [], ◌∷◌, ◌++◌, ℕ, ◌+◌, ◌≤◌, length, drop}
 use Rattle.definitions.specs.Bytes.{Text, pick}
 use Rattle.definitions.specs.Lines.{Stmt}
 use Rattle.definitions.specs.Sizes.{Annotated}
 use Rattle.definitions.specs.Blocks.{span, Array, Block, program}
 use Rattle.definitions.specs.FieldParser.{is_array_field}
-use Rattle.definitions.specs.declared.MaybeNumber.{MaybeNumber}
 use Rattle.definitions.specs.declared.Modifier.{Modifier}
 use Rattle.definitions.specs.declared.Size.{Size}
 use Rattle.meaning.specs.Machine.{State, running, run}
 
 -- the padded size of an array with a padding and no condition
-abbrev pub padded_bits : Annotated → MaybeNumber
-padded_bits a = pick (is_array_field a.field) a.padded_size MaybeNumber.None
+abbrev pub padded_bits : Annotated → Option ℕ
+padded_bits a = pick (is_array_field a.field) a.padded_size None
 
 -- such arrays and static fields only, of so many bits together
 pub data HaveBits : List Annotated → ℕ → Type 0 where
   none : HaveBits [] 0
-  padded : {a : Annotated} {later : List Annotated} {bits n : ℕ} → padded_bits a ≡ MaybeNumber.Some bits → HaveBits later n → HaveBits (a ∷ later) (bits + n)
-  static : {a : Annotated} {later : List Annotated} {bits n : ℕ} → padded_bits a ≡ MaybeNumber.None → a.field_size ≡ Size.Static bits → HaveBits later n
+  padded : {a : Annotated} {later : List Annotated} {bits n : ℕ} → padded_bits a ≡ Some bits → HaveBits later n → HaveBits (a ∷ later) (bits + n)
+  static : {a : Annotated} {later : List Annotated} {bits n : ℕ} → padded_bits a ≡ None → a.field_size ≡ Size.Static bits → HaveBits later n
       → HaveBits (a ∷ later) (bits + n)
 
 -- In a run of all the lines from the state σ the payload x ends so many bytes before the frame's end: within k steps the run stood before the lines of

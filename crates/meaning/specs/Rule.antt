@@ -2,10 +2,10 @@
 -- octets so filled stand in the file's order. Written from the language: it knows no line, no shift and no mask of the generator. Behind it,
 -- document 01's checked runs: which groups stand behind one size check.
 -- Assumes nothing.
-use Rattle.std.specs.Prelude.{true, false, List, [], ◌∷◌, ◌++◌, reverse, ℕ, zero, suc, ◌+◌, ◌*◌, ◌/◌, ◌%◌, ◌^◌, ◌<◌, eqb, get_or}
+use Rattle.std.specs.Prelude.{true, false, List, [], ◌∷◌, ◌++◌, reverse, ℕ, zero, suc, ◌+◌, ◌*◌, ◌/◌, ◌%◌, ◌^◌, ◌<◌, eqb, get_or, Option, Some, None}
 use Rattle.definitions.specs.Sizes.{enum_of}
 use Rattle.definitions.specs.FieldParser.{Setting, is_bit}
-use Rattle.definitions.specs.declared.EnumOf.{EnumOf}
+use Rattle.definitions.specs.declared.EnumKind.{EnumKind}
 use Rattle.definitions.specs.declared.EndiannessValue.{EndiannessValue}
 use Rattle.definitions.specs.declared.FieldDesc.{FieldDesc}
 use Rattle.definitions.specs.declared.Field.{Field}
@@ -38,9 +38,9 @@ Octets (b ∷ bs) = (b < 256) × Octets bs
 -- ---- the groups: bit fields gather up to the next octet boundary
 
 -- the width that an enum is declared with
-abbrev pub enum_width : EnumOf → ℕ
-enum_width (EnumOf.Enum width is_open is_complete) = width
-enum_width EnumOf.None = 0
+abbrev pub enum_width : Option EnumKind → ℕ
+enum_width (Some kind) = kind.width
+enum_width None = 0
 
 -- "widths are the record's, a flag 1, an enum as declared"; only bit fields have one
 abbrev pub declared_width : Setting → FieldDesc → ℕ

@@ -1,8 +1,7 @@
 -- Checked runs of bit fields (document 01, 'Lowering'): where one stands among the blocks of an answer, its lines, the widths of its chunks, and what
 -- it is to be run to its end.
 -- Assumes nothing.
-use Rattle.std.specs.Prelude.{◌≡◌, true, false, List, [], ◌∷◌, ◌++◌, ℕ, ◌+◌, ◌≤◌, length}
-use Rattle.std.proofs.Math.Option.{Option, none, some}
+use Rattle.std.specs.Prelude.{Option, Some, None, ◌≡◌, true, false, List, [], ◌∷◌, ◌++◌, ℕ, ◌+◌, ◌≤◌, length}
 use Rattle.definitions.specs.Bytes.{Text}
 use Rattle.definitions.specs.Record.{RecordRead, record_is, no_record, read_record}
 use Rattle.definitions.specs.Sizes.{Schema, Entry, new_schema}
@@ -117,12 +116,12 @@ pub record Target : Type 0 where
 
 -- the first packet or struct with the name that the head asks for
 unfoldable pub first_target : Text → Head → Schema → Option Target
-first_target s h [] = none
-first_target s h (e ∷ es) = elim (is_target s h e) [ true ↦ some (record { head = h; entry = e }) | false ↦ first_target s h es ]
+first_target s h [] = None
+first_target s h (e ∷ es) = elim (is_target s h e) [ true ↦ Some (record { head = h; entry = e }) | false ↦ first_target s h es ]
 
 -- of what was read, and of the record's bytes
 abbrev pub target_in : Text → RecordRead → Option Target
-target_in s no_record = none
+target_in s no_record = None
 target_in s (record_is h ds) = first_target s h (new_schema s ds)
 
 abbrev pub target_of : Text → Option Target

@@ -1,5 +1,4 @@
-pub mod Steps
-pub mod KeyBytes
+pub mod Keys
+pub mod Bytes
 pub mod Digits
 pub mod Words
-pub mod Parts

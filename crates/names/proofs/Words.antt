@@ -1,198 +1,212 @@
--- The turns and the ends of the loops over a name, and the names that are forbidden (`name_of`, `is_forbidden`, `name_at`).
+-- A name and a line of digits, by the first byte that is none of theirs (`name_of`, `some_digits`).
 -- Assumes nothing.
+use Rattle.std.specs.Prelude.{Option, Some, None}
+use Rattle.std.specs.Char.{is_ascii_digit}
+use Rattle.std.specs.List.{position_from, position}
+use Rattle.std.proofs.lemmas.List.Quantifiers.{position-Some}
+use Rattle.std.proofs.lemmas.Iterator.Adapters.{position_from-zero}
+use Rattle.definitions.specs.Record.{Read, word_of, name_of, part_of, digits_line, some_digits}
+use Rattle.definitions.specs.declared.Part.{Part}
 use Prim.Native.Nat.{ℕ, zero, suc, ◌+◌, ◌-◌, ◌≤◌, ◌<◌}
-use mathlib.Core.List.{List}
+use mathlib.Core.List.{List, [], ◌∷◌}
 use mathlib.Core.Bool.{Bool, true, false, not}
 use mathlib.Core.Path.{◌≡◌, refl, sym, ap, ◌∙◌}
-use native.Mathlib.Numerals.{add-one}
 use native.Mathlib.Omega.{arith}
+use native.Mathlib.Nat.{add-zero}
 use borrow.Author.Tests.{eq-eqb, ne_eqb, not-true, not-false}
+use lib.Dec.{eqb}
 use lib.ListN.{drop, length, get_or, drop_of_length-le}
-use lib.Seq.{drop-cons}
-use Rattle.definitions.specs.Bytes.{is_digit, is_word, text}
-use Rattle.definitions.specs.Record.{key_at, word_of, name_of, name_at, part_of, digits_line, some_digits, is_forbidden}
-use Rattle.definitions.specs.declared.Found.{Found}
-use Rattle.definitions.specs.declared.NameRead.{NameRead}
-use Rattle.names.specs.Limits.{Limit}
+use Rattle.definitions.specs.Bytes.{is_digit, is_word}
+use Rattle.names.proofs.Bytes.{digit_is}
 
--- ---- a name
-
-module _ (s : List ℕ) (a n p : ℕ) {e : NameRead} (inv : word_of (drop p s) a n p ≡ e) where
-  pub name-past : length s ≤ p → NameRead.Wrong ≡ e
-  unfolding word_of
-  name-past w = rw (drop_of_length-le s w) at inv
-
-  pub name-end : p < length s → get_or s p 0 ≡ 10 → NameRead.Is (part_of a p) (p + 1) ≡ e
-  unfolding word_of
-  name-end w h = rw (drop-cons s p 0 w, eq-eqb _ _ h, word_of) at inv
-
-  module _ (w : p < length s) (n10 : get_or s p 0 ≡ 10 → ⊥) where
-    pub name-long : n ≡ 32 → NameRead.Wrong ≡ e
-    unfolding word_of
-    name-long h = rw (drop-cons s p 0 w, ne_eqb _ _ n10, eq-eqb _ _ h, word_of) at inv
-
-    module _ (n32 : n ≡ 32 → ⊥) {r : Bool} (q : r ≡ is_word (get_or s p 0)) where
-      pub name-other : not r ≡ true → NameRead.Wrong ≡ e
-      unfolding word_of
-      name-other h = rw (drop-cons s p 0 w, ne_eqb _ _ n10, ne_eqb _ _ n32, sym q ∙ not-true r h, word_of) at inv
-
-      pub name-turn : not r ≡ false → word_of (drop (p + 1) s) a (n + 1) (p + 1) ≡ e
-      unfolding word_of
-      name-turn h = rw (add-one p) (rw (drop-cons s p 0 w, ne_eqb _ _ n10, ne_eqb _ _ n32, sym q ∙ not-false r h, word_of, add-one p) at inv)
-
-pub first_past : (s : List ℕ) (p : ℕ) → length s ≤ p → NameRead.Wrong ≡ name_of (drop p s) p
-unfolding name_of
-first_past s p w = rw (drop_of_length-le s w)
-
-module _ (s : List ℕ) (p : ℕ) (w : p < length s) {r : Bool} (q : r ≡ is_digit (get_or s p 0)) where
-  pub first-digit : r ≡ true → NameRead.Wrong ≡ name_of (drop p s) p
-  unfolding name_of
-  first-digit h = rw (drop-cons s p 0 w, sym q ∙ h, name_of)
-
-  module _ (z : r ≡ false) where
-    pub first-end : get_or s p 0 ≡ 10 → NameRead.Wrong ≡ name_of (drop p s) p
-    unfolding name_of
-    first-end h = rw (drop-cons s p 0 w, sym q ∙ z, eq-eqb _ _ h, name_of)
-
-    pub first_word : (get_or s p 0 ≡ 10 → ⊥) → word_of (drop p s) p 0 p ≡ name_of (drop p s) p
-    unfolding name_of
-    first_word h = rw (drop-cons s p 0 w, sym q ∙ z, ne_eqb _ _ h, name_of)
-
--- ---- a name, up to its limit
-
--- before the byte p: behind 33 bytes without a newline there is no name
-pub record Reading (s : List ℕ) (at limit p : ℕ) (e : NameRead) : Type 0 where
-  pub start : at ≤ p
-  pub bound : p ≤ limit
-  pub word : p < at + 33 → word_of (drop p s) at (p - at) p ≡ e
-  pub long : p ≡ at + 33 → NameRead.Wrong ≡ e
+no-two : {A : Type 0} → true ≡ false → A
+no-two h = absurd (let v : ◌≡◌ {A = ℕ} 0 1 = cc in omega arith)
 
 newline-no-word : is_word 10 ≡ false
 unfolding is_word is_digit
 newline-no-word = refl
 
 word-newline : {b : ℕ} → is_word b ≡ true → b ≡ 10 → ⊥
-word-newline h e = absurd (let q : ◌≡◌ {A = Bool} false true = sym newline-no-word ∙ sym (ap is_word e) ∙ h in let v : ◌≡◌ {A = ℕ} 0 1 = cc in omega arith)
+word-newline h e = no-two (sym h ∙ ap is_word e ∙ newline-no-word)
 
-module _ (s : List ℕ) (at limit : ℕ) (l : Limit (length s) at limit) where
-  pub read-start : at < length s → {e : NameRead} → word_of (drop at s) at 0 at ≡ e → Reading s at limit at e
-  read-start h {e} w = record {
-    start = omega arith;
-    bound = by (length s - limit) refl;
-    word = λ k. ap (λ (n : ℕ). word_of (drop at s) at n at) (let z : at - at ≡ 0 = omega arith in z) ∙ w;
-    long = λ k. absurd (omega (arith, k));
-  }
+digit-newline : {b : ℕ} → is_digit b ≡ true → b ≡ 10 → ⊥
+unfolding is_digit
+digit-newline h e = no-two (sym h ∙ ap is_digit e)
+
+-- ---- a name
+
+abbrev pub other : ℕ → Bool
+other b = not (is_word b)
+
+-- no byte that ends it
+word-none : (s : List ℕ) (start n at i : ℕ) → position_from other i s ≡ None → None ≡ word_of s start n at
+unfolding word_of
+word-none [] start n at i h = refl
+word-none (x ∷ s) start n at i h = by (is_word x) refl (word-none s start (n + 1) (at + 1) (i + 1))
+  where
+    turn : (b : Bool) → is_word x ≡ true → None ≡ word_of s start (n + 1) (at + 1)
+        → ◌≡◌ {A = Read Part} None (elim b [ true ↦ None | false ↦ elim (is_word x) [ true ↦ word_of s start (n + 1) (at + 1) | false ↦ None ] ])
+    turn true e h = refl
+    turn false e h = rw e h
+
+    by : (b : Bool) → is_word x ≡ b → (position_from other (i + 1) s ≡ None → None ≡ word_of s start (n + 1) (at + 1)) → None ≡ word_of (x ∷ s) start n at
+    by false e k = absurd (let q : ◌≡◌ {A = Option ℕ} (Some i) None = rw e at h in cc)
+    by true e k = rw (ne_eqb x 10 (word-newline e), word_of) (turn (eqb n 32) e (k (rw e at h)))
+
+-- the byte that ends it stands at k
+module _ (start : ℕ) where
+  word-end : (s : List ℕ) (n at k : ℕ) → n + k ≤ 32 → k < length s → get_or s k 0 ≡ 10 → ((j : ℕ) → j < k → is_word (get_or s j 0) ≡ true)
+      → Some (part_of start (at + k), at + k + 1) ≡ word_of s start n at
+  unfolding word_of
+  word-end [] n at k l w z f = absurd (omega (arith, w))
+  word-end (x ∷ s) n at zero l w z f = rw (eq-eqb x 10 z, add-zero at, word_of)
+  word-end (x ∷ s) n at (suc k) l w z f =
+      rw (ne_eqb x 10 (word-newline (f 0 (omega arith))), ne_eqb n 32 (λ h. absurd (omega arith)), f 0 (omega arith), word_of)
+      (let q : at + suc k ≡ at + 1 + k = omega arith in rw q (word-end s (n + 1) (at + 1) k (omega arith) (omega (arith, w)) z (λ j h. f (suc j) (omega arith))))
+
+  word-bad : (s : List ℕ) (n at k : ℕ) → n ≤ 32 → k < length s → is_word (get_or s k 0) ≡ false → ((j : ℕ) → j < k → is_word (get_or s j 0) ≡ true)
+      → (get_or s k 0 ≡ 10 → 32 < n + k) → None ≡ word_of s start n at
+  unfolding word_of
+  word-bad [] n at k l w z f g = absurd (omega (arith, w))
+  word-bad (x ∷ s) n at zero l w z f g = rw (ne_eqb x 10 (λ h. absurd (omega (arith, g h))), word_of) (by (eqb n 32))
     where
-      by : (d : ℕ) → d ≡ length s - limit → at ≤ limit
-      by zero q = omega (arith, q, h)
-      by (suc d) q = omega (arith, l.far (omega (arith, q)))
+      by : (b : Bool) → ◌≡◌ {A = Read Part} None (elim b [ true ↦ None | false ↦ elim (is_word x) [ true ↦ word_of s start (n + 1) (at + 1) | false ↦ None ] ])
+      by true = refl
+      by false = rw z
+  word-bad (x ∷ s) n at (suc k) l w z f g = rw (ne_eqb x 10 (word-newline (f 0 (omega arith))), word_of)
+      (by (33 - suc n) refl (λ m. word-bad s (n + 1) (at + 1) k m (omega (arith, w)) z (λ j h. f (suc j) (omega arith)) (λ h. let q : 32 < n + suc k = g h in omega arith)))
+    where
+      by : (d : ℕ) → d ≡ 33 - suc n → (n + 1 ≤ 32 → None ≡ word_of s start (n + 1) (at + 1)) → ◌≡◌ {A = Read Part} None (elim (eqb n 32) [ true ↦ None | false ↦ elim (is_word x) [ true ↦ word_of s start (n + 1) (at + 1) | false ↦ None ] ])
+      by zero e t = rw (eq-eqb n 32 (omega arith))
+      by (suc d) e t = rw (ne_eqb n 32 (λ h. absurd (omega arith)), f 0 (omega arith)) (t (omega arith))
 
-  module _ (p : ℕ) {e : NameRead} (inv : Reading s at limit p e) where
-    pub read_past : limit ≤ p → NameRead.Wrong ≡ e
-    read_past h = by (at + 33 - p) refl
-      where
-        by : (d : ℕ) → d ≡ at + 33 - p → NameRead.Wrong ≡ e
-        by zero q = inv.long (omega (arith, q, inv.bound, l.near))
-        by (suc d) q = name-past s at (p - at) p (inv.word (omega (arith, q))) (over (length s - limit) refl)
-          where
-            over : (d : ℕ) → d ≡ length s - limit → length s ≤ p
-            over zero k = omega (arith, k, h)
-            over (suc d) k = absurd (omega (arith, l.far (omega (arith, k)), q, h))
+name-by : (x : ℕ) (s : List ℕ) (at : ℕ) → (is_digit x ≡ false → (x ≡ 10 → ⊥) → None ≡ word_of (x ∷ s) at 0 at) → None ≡ name_of (x ∷ s) at
+unfolding name_of
+name-by x s at h = by (is_digit x) (eqb x 10) refl refl
+  where
+    by : (a b : Bool) → is_digit x ≡ a → eqb x 10 ≡ b
+        → ◌≡◌ {A = Read Part} None (elim a [ true ↦ None | false ↦ elim b [ true ↦ None | false ↦ word_of (x ∷ s) at 0 at ] ])
+    by true b d e = refl
+    by false true d e = refl
+    by false false d e = h d (λ q. no-two (sym (eq-eqb x 10 q) ∙ e))
 
-    module _ (h : p < limit) {r : Bool} (q : r ≡ is_word (get_or s p 0)) where
-      in-record : p < length s
-      in-record = omega (arith, l.inside)
+pub name-past : (s : List ℕ) (at : ℕ) → length s ≤ at → None ≡ name_of (drop at s) at
+unfolding name_of
+name-past s at w = rw (drop_of_length-le s w)
 
-      near-name : p < at + 33
-      near-name = omega (arith, l.near)
+pub name-none : (s : List ℕ) (at : ℕ) → position other s ≡ None → None ≡ name_of s at
+unfolding name_of
+name-none [] at h = refl
+name-none (x ∷ s) at h = name-by x s at (λ d e. word-none (x ∷ s) at 0 at 0 (sym (position_from-zero other (x ∷ s)) ∙ h))
 
-      pub read-newline : not r ≡ true → get_or s p 0 ≡ 10 → NameRead.Is (part_of at p) (p + 1) ≡ e
-      read-newline k n10 = name-end s at (p - at) p (inv.word near-name) in-record n10
+-- the first byte that is no letter stands at k
+pub record Ends (s : List ℕ) (k : ℕ) : Type 0 where
+  pub inside : k < length s
+  pub last : is_word (get_or s k 0) ≡ false
+  pub before : (j : ℕ) → j < k → is_word (get_or s j 0) ≡ true
 
-      pub read-other : not r ≡ true → (get_or s p 0 ≡ 10 → ⊥) → NameRead.Wrong ≡ e
-      read-other k n10 = by (32 - (p - at)) refl
+pub ends : (s : List ℕ) (k : ℕ) {r : Option ℕ} → r ≡ position (λ b. not (is_word b)) s → r ≡ Some k → Ends s k
+ends s k p h =
+    let f = position-Some other s k 0 (sym p ∙ h) in
+    record { inside = f.0; last = not-true (is_word (get_or s k 0)) f.1; before = λ j l. not-false (is_word (get_or s j 0)) (f.2 j l) }
+
+module _ (s : List ℕ) (k : ℕ) (at : ℕ) where
+  pub name-wrong : Ends s k → (get_or s k 0 ≡ 10 → k ≤ 32 → k ≡ 0) → None ≡ name_of s at
+  name-wrong = by s
+    where
+      by : (s : List ℕ) → Ends s k → (get_or s k 0 ≡ 10 → k ≤ 32 → k ≡ 0) → None ≡ name_of s at
+      by [] q h = absurd (let l : k < length {A = ℕ} [] = q.inside in omega arith)
+      by (x ∷ s) q h = name-by x s at (λ d e. word-bad at (x ∷ s) 0 at k (omega arith) q.inside q.last q.before (λ z. long z (33 - k) refl e))
         where
-          by : (d : ℕ) → d ≡ 32 - (p - at) → NameRead.Wrong ≡ e
-          by zero z = name-long s at (p - at) p (inv.word near-name) in-record n10 (omega (arith, z, near-name, inv.start))
-          by (suc d) z =
-              name-other s at (p - at) p (inv.word near-name) in-record n10 (λ m. absurd (omega (arith, m, z))) q k
+          long : get_or (x ∷ s) k 0 ≡ 10 → (d : ℕ) → d ≡ 33 - k → (x ≡ 10 → ⊥) → 32 < 0 + k
+          long z zero e n = omega arith
+          long z (suc d) e n = let o : k ≡ 0 = h z (omega arith) in absurd (n (rw o at z))
 
-      pub read-turn : not r ≡ false → Reading s at limit (p + 1) e
-      read-turn k = record {
-        start = omega (arith, inv.start);
-        bound = omega arith;
-        word =
-            λ m. ap (λ (n : ℕ). word_of (drop (p + 1) s) at n (p + 1)) (let z : p + 1 - at ≡ p - at + 1 = omega (arith, inv.start) in z)
-            ∙ name-turn s at (p - at) p (inv.word near-name) in-record other (λ z. absurd (omega (arith, z, m, inv.start))) q k;
-        long = λ m. name-long s at (p - at) p (inv.word near-name) in-record other (omega (arith, m, inv.start));
-      }
-        where
-          other : get_or s p 0 ≡ 10 → ⊥
-          other = word-newline (sym q ∙ not-false r k)
+  pub name-digit : k < length s → is_digit (get_or s 0 0) ≡ true → None ≡ name_of s at
+  name-digit = by s
+    where
+      by : (s : List ℕ) → k < length s → is_digit (get_or s 0 0) ≡ true → None ≡ name_of s at
+      by [] l d = absurd (omega (arith, l))
+      by (x ∷ s) l d = name-by x s at (λ e f. no-two (sym d ∙ e))
 
--- ---- a forbidden name
+  pub name-whole : Ends s k → (k ≡ 0 → ⊥) → k ≤ 32 → get_or s k 0 ≡ 10 → is_digit (get_or s 0 0) ≡ false → Some (part_of at (at + k), at + k + 1) ≡ name_of s at
+  unfolding name_of
+  name-whole = by s
+    where
+      by : (s : List ℕ) → Ends s k → (k ≡ 0 → ⊥) → k ≤ 32 → get_or s k 0 ≡ 10 → is_digit (get_or s 0 0) ≡ false
+          → Some (part_of at (at + k), at + k + 1) ≡ name_of s at
+      by [] q n l z d = absurd (let m : k < length {A = ℕ} [] = q.inside in omega arith)
+      by (x ∷ s) q n l z d = rw (d, ne_eqb x 10 (word-newline (q.before 0 (omega arith))), name_of) (word-end at (x ∷ s) 0 at k (omega arith) q.inside z q.before)
 
-module _ (s : List ℕ) (p : ℕ) {e : Bool} (inv : digits_line (drop p s) ≡ e) where
-  pub line-past : length s ≤ p → false ≡ e
-  unfolding digits_line
-  line-past w = rw (drop_of_length-le s w) at inv
+-- ---- digits
 
-  pub line-end : p < length s → get_or s p 0 ≡ 10 → true ≡ e
-  unfolding digits_line
-  line-end w h = rw (drop-cons s p 0 w, eq-eqb _ _ h, digits_line) at inv
+abbrev pub no-digit : ℕ → Bool
+no-digit b = not (is_ascii_digit b)
 
-  module _ (w : p < length s) (n10 : get_or s p 0 ≡ 10 → ⊥) {r : Bool} (q : r ≡ is_digit (get_or s p 0)) where
-    pub line_other : not r ≡ true → false ≡ e
-    unfolding digits_line
-    line_other h = rw (drop-cons s p 0 w, ne_eqb _ _ n10, sym q ∙ not-true r h, digits_line) at inv
+line-none : (s : List ℕ) (i : ℕ) → position_from no-digit i s ≡ None → false ≡ digits_line s
+unfolding digits_line
+line-none [] i h = refl
+line-none (x ∷ s) i h = by (is_ascii_digit x) refl (line-none s (i + 1))
+  where
+    by : (b : Bool) → is_ascii_digit x ≡ b → (position_from no-digit (i + 1) s ≡ None → false ≡ digits_line s) → false ≡ digits_line (x ∷ s)
+    by false e k = absurd (let q : ◌≡◌ {A = Option ℕ} (Some i) None = rw e at h in cc)
+    by true e k = let d = sym (digit_is x) ∙ e in rw (ne_eqb x 10 (digit-newline d), d, digits_line) (k (rw e at h))
 
-    pub line-turn : not r ≡ false → digits_line (drop (p + 1) s) ≡ e
-    unfolding digits_line
-    line-turn h = rw (add-one p) (rw (drop-cons s p 0 w, ne_eqb _ _ n10, sym q ∙ not-false r h, digits_line) at inv)
+line-at : (s : List ℕ) (k : ℕ) → k < length s → is_digit (get_or s k 0) ≡ false → ((j : ℕ) → j < k → is_digit (get_or s j 0) ≡ true)
+    → eqb (get_or s k 0) 10 ≡ digits_line s
+unfolding digits_line
+line-at [] k w z f = absurd (omega (arith, w))
+line-at (x ∷ s) zero w z f = by (eqb x 10)
+  where
+    by : (b : Bool) → b ≡ elim b [ true ↦ true | false ↦ elim (is_digit x) [ true ↦ digits_line s | false ↦ false ] ]
+    by true = refl
+    by false = rw z
+line-at (x ∷ s) (suc k) w z f =
+    rw (ne_eqb x 10 (digit-newline (f 0 (omega arith))), f 0 (omega arith), digits_line) (line-at s k (omega (arith, w)) z (λ j h. f (suc j) (omega arith)))
 
-pub some-past : (s : List ℕ) (p : ℕ) → length s ≤ p → false ≡ some_digits (drop p s)
+pub some-none : (s : List ℕ) {r : Option ℕ} → r ≡ position (λ b. not (is_ascii_digit b)) s → r ≡ None → false ≡ some_digits s
+unfolding some_digits digits_line
+some-none [] p h = refl
+some-none (x ∷ s) p h = by (is_digit x) refl
+  where
+    n : position_from no-digit 0 (x ∷ s) ≡ None
+    n = sym (position_from-zero no-digit (x ∷ s)) ∙ sym p ∙ h
+
+    by : (b : Bool) → is_digit x ≡ b → ◌≡◌ {A = Bool} false (elim b [ true ↦ digits_line s | false ↦ false ])
+    by false e = refl
+    by true e = let l : false ≡ digits_line (x ∷ s) = line-none (x ∷ s) 0 n in rw (ne_eqb x 10 (digit-newline e), e, digits_line) at l
+
+some-first : (s : List ℕ) (k : ℕ) {r : Option ℕ} → r ≡ position (λ b. not (is_ascii_digit b)) s → r ≡ Some k → k ≡ 0 → false ≡ some_digits s
 unfolding some_digits
-some-past s p w = rw (drop_of_length-le s w)
+some-first [] k p h z = refl
+some-first (x ∷ s) k p h z =
+    let f = position-Some no-digit (x ∷ s) 0 0 (sym p ∙ h ∙ ap Some z) in
+    let d : is_digit x ≡ false = sym (digit_is x) ∙ not-true (is_ascii_digit x) f.1 in
+    rw (d, some_digits)
 
-module _ (s : List ℕ) (p : ℕ) (w : p < length s) {r : Bool} (q : r ≡ is_digit (get_or s p 0)) where
-  pub some-other : not r ≡ true → false ≡ some_digits (drop p s)
-  unfolding some_digits
-  some-other h = rw (drop-cons s p 0 w, sym q ∙ not-true r h, some_digits)
+some-at : (s : List ℕ) (k : ℕ) {r : Option ℕ} → r ≡ position (λ b. not (is_ascii_digit b)) s → r ≡ Some k → (k ≡ 0 → ⊥)
+    → eqb (get_or s k 0) 10 ≡ some_digits s
+unfolding some_digits digits_line
+some-at [] k p h z = let f = position-Some no-digit [] k 0 (sym p ∙ h) in absurd (let l : k < length {A = ℕ} [] = f.0 in omega arith)
+some-at (x ∷ s) k p h z =
+    let f = position-Some no-digit (x ∷ s) k 0 (sym p ∙ h) in
+    let d : is_digit x ≡ true = sym (digit_is x) ∙ not-false (is_ascii_digit x) (f.2 0 (omega arith)) in
+    let l : eqb (get_or (x ∷ s) k 0) 10 ≡ digits_line (x ∷ s) =
+    line-at (x ∷ s) k f.0 (sym (digit_is (get_or (x ∷ s) k 0)) ∙ not-true (is_ascii_digit (get_or (x ∷ s) k 0)) f.1)
+    (λ j m. sym (digit_is (get_or (x ∷ s) j 0)) ∙ not-false (is_ascii_digit (get_or (x ∷ s) j 0)) (f.2 j m)) in
+    rw (d, some_digits) (rw (ne_eqb x 10 (digit-newline d), d, digits_line) at l)
 
-  pub some-line : not r ≡ false → digits_line (drop (p + 1) s) ≡ some_digits (drop p s)
-  unfolding some_digits
-  some-line h = rw (add-one p, drop-cons s p 0 w, sym q ∙ not-false r h, some_digits)
+module _ (s : List ℕ) (k : ℕ) {r : Option ℕ} (p : r ≡ position (λ b. not (is_ascii_digit b)) s) (h : r ≡ Some k) where
+  pub some-line : get_or s k 0 ≡ 10 → not (eqb k 0) ≡ some_digits s
+  some-line n = by k refl
+    where
+      by : (j : ℕ) → k ≡ j → not (eqb k 0) ≡ some_digits s
+      by zero z = rw (eq-eqb k 0 z) (some-first s k p h z)
+      by (suc j) z = rw (ne_eqb k 0 (λ y. absurd (omega arith))) (sym (eq-eqb (get_or s k 0) 10 n) ∙ some-at s k p h (λ y. absurd (omega arith)))
 
-module _ (s : List ℕ) (at : ℕ) {r₁ : Found} (e₁ : r₁ ≡ key_at s at (text "span\n")) where
-  pub forbidden-span : {p : ℕ} → r₁ ≡ Found.At p → true ≡ is_forbidden s at
-  unfolding is_forbidden
-  forbidden-span h = rw (sym e₁ ∙ h)
-
-  module _ (h₁ : r₁ ≡ Found.Nothing) {r₂ : Found} (e₂ : r₂ ≡ key_at s at (text "output\n")) where
-    pub forbidden-output : {p : ℕ} → r₂ ≡ Found.At p → true ≡ is_forbidden s at
-    unfolding is_forbidden
-    forbidden-output h = rw (sym e₁ ∙ h₁, sym e₂ ∙ h)
-
-    module _ (h₂ : r₂ ≡ Found.Nothing) {r₃ : Found} (e₃ : r₃ ≡ key_at s at (text "chunk")) where
-      pub forbidden-not : r₃ ≡ Found.Nothing → false ≡ is_forbidden s at
-      unfolding is_forbidden
-      forbidden-not h = rw (sym e₁ ∙ h₁, sym e₂ ∙ h₂, sym e₃ ∙ h)
-
-      pub forbidden-chunk : {p : ℕ} → r₃ ≡ Found.At p → {b : Bool} → b ≡ some_digits (drop p s) → b ≡ is_forbidden s at
-      unfolding is_forbidden
-      forbidden-chunk h k = rw (sym e₁ ∙ h₁, sym e₂ ∙ h₂, sym e₃ ∙ h) k
-
-module _ (s : List ℕ) (at : ℕ) {r : Bool} (q : r ≡ is_forbidden s at) where
-  pub name-forbidden : r ≡ true → NameRead.Wrong ≡ name_at s at
-  unfolding name_at
-  name-forbidden h = rw (sym q ∙ h, name_at)
-
-  pub name_free : r ≡ false → {n : NameRead} → n ≡ name_of (drop at s) at → n ≡ name_at s at
-  unfolding name_at
-  name_free h k = rw (sym q ∙ h, name_at) k
-
-pub ruleset words = (read_past, read-newline, read-other, first_past, first-digit, first-end)
-
-pub ruleset digit-lines = (line-past, line-end, line_other, some-past, some-other)
-
-pub ruleset forbidden = (digit-lines, forbidden-span, forbidden-output, forbidden-not, forbidden-chunk, name-forbidden, name_free)
+  pub some-other : (get_or s k 0 ≡ 10 → ⊥) → eqb (get_or s k 0) 10 ≡ some_digits s
+  some-other n = by k refl
+    where
+      by : (j : ℕ) → k ≡ j → eqb (get_or s k 0) 10 ≡ some_digits s
+      by zero z = ne_eqb (get_or s k 0) 10 n ∙ some-first s k p h z
+      by (suc j) z = some-at s k p h (λ y. absurd (omega arith))

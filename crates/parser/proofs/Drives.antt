@@ -1,6 +1,8 @@
 -- The driver over the entries: `new`, a turn for each, and `done`. What is left to tell, behind what is written, is all that the plan tells.
 -- Assumes nothing.
-use mathlib.Core.Bool.{Bool, true, false}
+use Rattle.std.specs.Prelude.{Result, Ok, Err}
+use Rattle.std.proofs.lemmas.Result.{IfOk-at_ok}
+use Rattle.definitions.specs.Refusals.{Verdict}
 use mathlib.Core.List.{List, [], ◌++◌, append_assoc, append-nil}
 use mathlib.Core.Path.{◌≡◌, refl, sym, ap, ◌∙◌, subst}
 use Prim.Native.Nat.{ℕ, ◌+◌, ◌-◌, ◌≤◌, ◌<◌, ◌^◌}
@@ -10,9 +12,10 @@ use Rattle.definitions.specs.Bytes.{Text, text}
 use Rattle.definitions.specs.declared.Options.{Options}
 use Rattle.definitions.specs.declared.Part.{Part}
 use Rattle.definitions.specs.declared.Refusal.{Refusal}
-use Rattle.definitions.specs.declared.Verdict.{Verdict}
-use Rattle.text.specs.Put.{Put}
-use Rattle.text.proofs.Puts.{chain, still, like, kept}
+use Rattle.text.specs.Wrote.{Wrote}
+use Rattle.text.specs.declared.Writer.{Writer}
+use Rattle.text.proofs.Puts.{kept}
+use Rattle.text.proofs.Wrotes.{then, alike, nothing}
 use Rattle.stream.specs.Stream.{fresh}
 use Rattle.stream.specs.Stream as flow
 use Rattle.bit_fields.specs.declared.KindAt.{KindAt}
@@ -22,22 +25,18 @@ use Rattle.plans.specs.Told.{Advance, advance, Told, joined, tell}
 use Rattle.plans.specs.Plans.{entry_at, planned_in, plans_from, run_at, widths_at, Sound}
 use Rattle.plans.proofs.Entries.{plans-step, plans-end, ahead-is}
 use Rattle.chunk_lines.specs.declared.Chunk.{Chunk}
-use Rattle.chunk_lines.specs.declared.Held.{Held}
 use Rattle.chunk_lines.specs.Bits.{sum_to, bits_of}
 use Rattle.chunk_lines.proofs.Fields.{bits-length}
 use Rattle.chunks.specs.declared.State.{State}
-use Rattle.chunks.specs.declared.Step.{Step}
-use Rattle.chunks.specs.Steps.{seen, new_state, no_fields, passed_step, code_verdict}
+use Rattle.chunks.specs.Steps.{seen, new_state, no_fields, code_verdict, verdict_of}
 use Rattle.chunks.proofs.Codes.{code-flushes}
-use Rattle.parser.specs.declared.Lowered.{Lowered}
-use Rattle.parser.specs.Driver.{is_refused, answer_by, done_by, Tells}
-use Rattle.parser.proofs.Others.{not-refused}
+use Rattle.parser.specs.Driver.{Tells}
 use Rattle.parser.proofs.Turns.{Going, fields_in, Turned}
 
-abbrev no_kinds : List Held
-no_kinds = replicate 64 (record { kind = KindAt.Reserved })
+abbrev no_kinds : List KindAt
+no_kinds = replicate 64 KindAt.Reserved
 
-module _ (o : Options) (s : Text) (plan : List PlanAt) (n : ℕ) (out₀ : Text) (at : ℕ) where
+module _ (o : Options) (s : Text) (plan : List PlanAt) (n : ℕ) (start : Writer) where
   abbrev rest : (Part → ℕ) → ℕ → List Planned
   rest bits k = plans_from o s bits plan k (n - k)
 
@@ -49,95 +48,71 @@ module _ (o : Options) (s : Text) (plan : List PlanAt) (n : ℕ) (out₀ : Text)
   all_left = omega arith
 
   -- from entry k on
-  abbrev left : (Part → ℕ) → ℕ → State → Chunk → List Held → Told
+  abbrev left : (Part → ℕ) → ℕ → State → Chunk → List KindAt → Told
   left bits k t c kinds = tell o (seen t (fields_in o s plan n c kinds)) (rest bits k)
 
   -- before entry k: what is written, and then what is left
-  pub record Goes (bits : Part → ℕ) (out : Text) (p k : ℕ) (t : State) (c : Chunk) (kinds : List Held) : Type 0 where
+  pub record Goes (bits : Part → ℕ) (w : Writer) (k : ℕ) (t : State) (c : Chunk) (kinds : List KindAt) : Type 0 where
     pub lines : Text
-    pub wrote : Put out₀ at lines p out
-    pub goes : whole bits ≡ joined Verdict.Pass lines (left bits k t c kinds)
+    pub wrote : Wrote start w lines
+    pub goes : whole bits ≡ joined (Ok tt) lines (left bits k t c kinds)
 
-  pub record Run (out : Text) (p k : ℕ) (t : State) (c : Chunk) (kinds : List Held) : Type 0 where
-    pub inside : k ≤ n
-    pub same : length out ≡ length out₀
-    pub room : length out < 2 ^ 63
-    pub tells : (bits : Part → ℕ) → Goes bits out p k t c kinds
+  pub record Run (w : Writer) (k : ℕ) (t : State) (c : Chunk) (kinds : List KindAt) : Type 0 where
+    pub tells : (bits : Part → ℕ) → Goes bits w k t c kinds
     pub going : Going plan n k t c kinds
 
-  new-run : (n ≤ 64) × Sound plan n → {c : Chunk} → c ≡ no_fields → length out₀ < 2 ^ 63 → Run out₀ at 0 new_state c no_kinds
+  new-run : (n ≤ 64) × Sound plan n → length start.out.now < 2 ^ 63 → Run start 0 new_state no_fields no_kinds
   unfolding bits_of sum_to
-  new-run z ec room =
-      (subst (λ (c : Chunk). Run out₀ at 0 new_state c no_kinds) (sym ec) (record {
-        inside = omega arith;
-        same = refl;
-        room = room;
-        tells = λ bits. record {
-          lines = [];
-          wrote = still out₀ at room;
-          goes = ap (λ (m : ℕ). tell o fresh (plans_from o s bits plan 0 m)) all_left;
-        };
-        going = record {
-          few = omega arith;
-          numbers = omega arith;
-          tested = omega arith;
-          sum = refl;
-          fits = omega (arith, z.1.sum, ap (widths_at plan 0) all_left);
-          shifts-long = length-replicate {A = ℕ} 64 0;
-          widths-long = length-replicate {A = ℕ} 64 0;
-          kinds-long = length-replicate {A = Held} 64 (record { kind = KindAt.Reserved });
-        };
-      }))
+  new-run z room = record {
+    tells = λ bits. record {
+      lines = [];
+      wrote = nothing start room;
+      goes = ap (λ (m : ℕ). tell o fresh (plans_from o s bits plan 0 m)) all_left;
+    };
+    going = record {
+      few = omega arith;
+      numbers = omega arith;
+      tested = omega arith;
+      sum = refl;
+      fits = omega (arith, z.1.sum, ap (widths_at plan 0) all_left);
+      shifts-long = length-replicate {A = ℕ} 64 0;
+      widths-long = length-replicate {A = ℕ} 64 0;
+      kinds-long = length-replicate {A = KindAt} 64 KindAt.Reserved;
+    };
+  }
 
-  abbrev Ends : Lowered → Text → Type 0
-  Ends r out = (bits : Part → ℕ) → Tells (whole bits) out₀ at r out
+  pub run-start : (n ≤ 64) × Sound plan n → {c : Chunk} → c ≡ no_fields → {t : State} → t ≡ new_state → length start.out.now < 2 ^ 63
+      → Run start 0 t c no_kinds
+  run-start z {c} ec {t} et room =
+      subst (λ (c : Chunk). Run start 0 t c no_kinds) (sym ec) (subst (λ (t : State). Run start 0 t no_fields no_kinds) (sym et) (new-run z room))
 
-  -- behind a step: it passed and the run goes on, or it was refused and the run is at its end
-  pub record Ran (out : Text) (k : ℕ) (r : Step) (c : Chunk) (kinds : List Held) : Type 0 where
-    pub inside : k ≤ n
-    pub same : length out ≡ length out₀
-    pub goes_on : r.verdict ≡ Verdict.Pass → Run out r.at k r.state c kinds
-    pub ended : (why : Refusal) → r.verdict ≡ Verdict.Refuse why → Ends (record { verdict = Verdict.Refuse why; at = at }) out
+  -- the answer behind what is written
+  abbrev Ends : Writer → Verdict → Type 0
+  Ends w r = (bits : Part → ℕ) → Tells (whole bits) start w r
 
-  pub run-start : (n ≤ 64) × Sound plan n → {c : Chunk} → c ≡ no_fields → {r : Step} → r ≡ passed_step at new_state → length out₀ < 2 ^ 63 → Ran out₀ 0 r c no_kinds
-  run-start z {c} ec er room = subst (λ (r : Step). Ran out₀ 0 r c no_kinds) (sym er) (record {
-    inside = omega arith;
-    same = refl;
-    goes_on = λ v. new-run z ec room;
-    ended = λ why v. absurd (let z : ◌≡◌ {A = ℕ} 0 1 = cc in omega arith);
-  })
+  told-as : {v : Verdict} {lines : Text} {w : Writer} {x : Told} → x ≡ record { verdict = v; lines = lines } → Wrote start w lines → Tells x start w v
+  told-as {v} {lines} {w} e wrote = subst (λ (x : Told). Tells x start w v) (sym e) (record { verdict_is = refl; wrote = wrote })
 
-  -- a refusal, behind what was written
-  stopped : {why : Refusal} {lines left : Text} {p : ℕ} {x : Told} → x ≡ record { verdict = Verdict.Refuse why; lines = lines } → Put out₀ at lines p left
-      → Tells x out₀ at (record { verdict = Verdict.Refuse why; at = at }) left
-  stopped {why} {lines} {left} e put =
-      subst (λ (x : Told). Tells x out₀ at (record { verdict = Verdict.Refuse why; at = at }) left) (sym e)
-      (record { verdict_is = refl; wrote = (refl, put.written) })
+  module _ (w : Writer) (k : ℕ) (t : State) (c : Chunk) (kinds : List KindAt) (run : Run w k t c kinds) where
+    pub run-room : length w.out.now < 2 ^ 63
+    run-room = let p : Wrote start w _ = (run.tells (λ id. 0)).wrote in omega (arith, kept p.put, p.put.room)
 
-  module _ (out : Text) (p k : ℕ) (t : State) (c : Chunk) (kinds : List Held) (run : Run out p k t c kinds) where
     -- ---- `done`
 
-    finished : (bits : Part → ℕ) (v : Verdict) → left bits k t c kinds ≡ record { verdict = v; lines = [] } → Tells (whole bits) out₀ at (answer_by v at p) out
-    finished bits Verdict.Pass e =
-        let g : Goes bits out p k t c kinds = run.tells bits in
-        subst (λ (x : Told). Tells x out₀ at (record { verdict = Verdict.Pass; at = p }) out)
-        (sym (g.goes ∙ ap (joined Verdict.Pass g.lines) e))
-        (record { verdict_is = refl; wrote = like (sym (append-nil g.lines)) g.wrote })
-    finished bits (Verdict.Refuse why) e =
-        let g : Goes bits out p k t c kinds = run.tells bits in
-        stopped (g.goes ∙ ap (joined Verdict.Pass g.lines) e) (like (sym (append-nil g.lines)) g.wrote)
-
-    run-done : n ≤ k → Ends (answer_by (code_verdict t.pending c.len) at p) out
+    pub run-done : n ≤ k → {r : Verdict} → r ≡ code_verdict t.pending c.len → Ends w r
     unfolding tell
-    run-done h bits =
-        (finished bits (code_verdict t.pending c.len)
-        (ap (tell o (seen t (fields_in o s plan n c kinds))) (plans-end o s bits plan n k h)
+    run-done h {r} e bits =
+        let g : Goes bits w k t c kinds = run.tells bits in
+        let d : left bits k t c kinds ≡ record { verdict = r; lines = [] } =
+        ap (tell o (seen t (fields_in o s plan n c kinds))) (plans-end o s bits plan n k h)
         ∙ ap (λ (v : Verdict). record { verdict = v; lines = [] })
-        (sym (code-flushes t.pending (fields_in o s plan n c kinds) c.len (bits-length o.arrays s (text "payload") c kinds c.len)))))
+        (sym (code-flushes t.pending (fields_in o s plan n c kinds) c.len (bits-length o.arrays s (text "payload") c kinds c.len)) ∙ sym e) in
+        told-as (g.goes ∙ ap (joined (Ok tt) g.lines) d) (alike (sym (append-nil g.lines)) g.wrote)
 
     -- ---- a turn
 
-    module _ (h : k < n) {q : Step} {d : Chunk} {held : List Held} {next : Text} (u : Turned o s plan n k t c kinds out p q d held next) where
+    module _ (h : k < n) {q : Result State Refusal} {d : Chunk} {held : List KindAt} {next : Writer}
+        (u : Turned o s plan n k t c kinds w next q d held) where
       abbrev goes_by : (Part → ℕ) → Advance
       goes_by bits = advance o (seen t (fields_in o s plan n c kinds)) (planned_in o s bits (entry_at plan k)) (run_at plan (k + 1) (n - (k + 1)))
 
@@ -151,62 +126,31 @@ module _ (o : Options) (s : Text) (plan : List PlanAt) (n : ℕ) (out₀ : Text)
           joined a.verdict a.lines (tell o a.after (rest bits (k + 1))))
           (ahead-is o s bits plan (k + 1) (n - (k + 1)))
 
-      run-kept : length next ≡ length out₀
-      run-kept = kept (u.steps (λ id. 0)).wrote ∙ run.same
-
-      run-stop : {why : Refusal} → q.verdict ≡ Verdict.Refuse why → Ends (record { verdict = Verdict.Refuse why; at = at }) next
-      run-stop {why} e bits =
-          let g : Goes bits out p k t c kinds = run.tells bits in
-          stopped
-          (g.goes ∙ ap (joined Verdict.Pass g.lines) (turn bits
+      pub run-stop : {why : Refusal} → q ≡ Err why → {r : Verdict} → r ≡ Err why → Ends next r
+      run-stop {why} e {r} f bits =
+          let g : Goes bits w k t c kinds = run.tells bits in
+          subst (λ (r : Verdict). Tells (whole bits) start next r) (sym f)
+          (told-as
+          (g.goes ∙ ap (joined (Ok tt) g.lines) (turn bits
           ∙ ap (λ (v : Verdict). joined v (goes_by bits).lines (tell o (goes_by bits).after (rest bits (k + 1))))
-          (sym (u.steps bits).verdict_is ∙ e)))
-          (chain g.wrote (u.steps bits).wrote)
+          (sym (u.steps bits).verdict_is ∙ ap verdict_of e)))
+          (then g.wrote (u.steps bits).wrote))
 
-      run-turn : q.verdict ≡ Verdict.Pass → Run next q.at (k + 1) q.state d held
-      run-turn e = record {
-        inside = omega arith;
-        same = run-kept;
-        room = omega (arith, run-kept, run.same, run.room);
+      pub run_on : {t' : State} → q ≡ Ok t' → Run next (k + 1) t' d held
+      run_on {t'} e = record {
         tells = λ bits.
-            let g : Goes bits out p k t c kinds = run.tells bits in
+            let g : Goes bits w k t c kinds = run.tells bits in
             record {
               lines = g.lines ++ (goes_by bits).lines;
-              wrote = chain g.wrote (u.steps bits).wrote;
+              wrote = then g.wrote (u.steps bits).wrote;
               goes =
-                  g.goes ∙ ap (joined Verdict.Pass g.lines) (turn bits
+                  g.goes ∙ ap (joined (Ok tt) g.lines) (turn bits
                   ∙ ap (λ (v : Verdict). joined v (goes_by bits).lines (tell o (goes_by bits).after (rest bits (k + 1))))
-                  (sym (u.steps bits).verdict_is ∙ e)
-                  ∙ ap (λ (x : flow.State). joined Verdict.Pass (goes_by bits).lines (tell o x (rest bits (k + 1))))
-                  (sym ((u.steps bits).goes_on e)))
-                  ∙ ap (λ (x : Text). record { verdict = (left bits (k + 1) q.state d held).verdict; lines = x })
-                  (sym (append_assoc g.lines (goes_by bits).lines (left bits (k + 1) q.state d held).lines));
+                  (sym (u.steps bits).verdict_is ∙ ap verdict_of e)
+                  ∙ ap (λ (x : flow.State). joined (Ok tt) (goes_by bits).lines (tell o x (rest bits (k + 1))))
+                  (sym (IfOk-at_ok _ e (u.steps bits).goes_on)))
+                  ∙ ap (λ (x : Text). record { verdict = (left bits (k + 1) t' d held).verdict; lines = x })
+                  (sym (append_assoc g.lines (goes_by bits).lines (left bits (k + 1) t' d held).lines));
             };
-        going = u.going e;
+        going = u.going t' e;
       }
-
-      pub run_on : Ran next (k + 1) q d held
-      run_on = record { inside = omega arith; same = run-kept; goes_on = run-turn; ended = λ why e. run-stop e }
-
-  module _ (out : Text) (k : ℕ) (r : Step) (c : Chunk) (kinds : List Held) (ran : Ran out k r c kinds) where
-    -- it was refused
-    by-verdict : (v : Verdict) → r.verdict ≡ v → is_refused v ≡ true → Ends (record { verdict = v; at = at }) out
-    by-verdict Verdict.Pass e f = let z : ◌≡◌ {A = ℕ} 0 1 = cc in absurd (omega arith)
-    by-verdict (Verdict.Refuse why) e f = ran.ended why e
-
-    module _ {b : Bool} (eb : b ≡ is_refused r.verdict) where
-      pub run-ended : b ≡ true → Ends (record { verdict = r.verdict; at = at }) out
-      run-ended f = by-verdict r.verdict refl (sym eb ∙ f)
-
-      pub run-goes : b ≡ false → Run out r.at k r.state c kinds
-      run-goes f = ran.goes_on (not-refused r.verdict (sym eb ∙ f))
-
-    done-by : n ≤ k → (v : Verdict) → r.verdict ≡ v → Ends (elim v [
-      | Verdict.Pass ↦ answer_by (code_verdict r.state.pending c.len) at r.at
-      | Verdict.Refuse why ↦ record { verdict = Verdict.Refuse why; at = at }
-    ]) out
-    done-by h Verdict.Pass e = run-done out r.at k r.state c kinds (ran.goes_on e) h
-    done-by h (Verdict.Refuse why) e = ran.ended why e
-
-    pub run_ends : n ≤ k → {x : Lowered} → x ≡ done_by r c.len at → Ends x out
-    run_ends h e bits = subst (λ (x : Lowered). Tells (whole bits) out₀ at x out) (sym e) (done-by h r.verdict refl bits)

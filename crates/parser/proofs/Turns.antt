@@ -1,20 +1,24 @@
 -- One turn of the driver: what each kind of entry comes to is an advance of the plan, and what holds before the next entry.
 -- Assumes nothing.
-use mathlib.Core.Bool.{Bool, true, false}
+use Rattle.std.specs.Prelude.{Result, Ok, Err}
+use Rattle.std.proofs.lemmas.Result.{IfOk-at_ok}
+use Rattle.definitions.specs.Refusals.{Verdict}
+use mathlib.Core.Bool.{Bool, true, false, ◌&&◌}
 use mathlib.Core.List.{List, [], ◌∷◌, ◌++◌}
 use mathlib.Core.Path.{◌≡◌, refl, sym, ap, ◌∙◌, subst}
 use Prim.Native.Nat.{ℕ, zero, suc, ◌+◌, ◌-◌, ◌%◌, ◌≤◌, ◌<◌, ◌^◌}
 use native.Mathlib.Omega.{arith}
 use lib.Dec.{eqb}
 use lib.ListN.{length, length-set, set}
-use borrow.Author.Tests.{eq-eqb, ne_eqb, eqb-true, eqb-false}
+use borrow.Author.Tests.{eqb-true, eqb-false}
 use Rattle.definitions.specs.Bytes.{Text, text}
 use Rattle.definitions.specs.Blocks.{Bit, Kind}
 use Rattle.definitions.specs.declared.Options.{Options}
 use Rattle.definitions.specs.declared.Part.{Part}
-use Rattle.definitions.specs.declared.Verdict.{Verdict}
+use Rattle.definitions.specs.declared.Refusal.{Refusal}
 use Rattle.definitions.proofs.Raws.{raws-most}
-use Rattle.text.proofs.Puts.{like, still}
+use Rattle.text.specs.declared.Writer.{Writer}
+use Rattle.text.proofs.Wrotes.{alike, nothing}
 use Rattle.stream.specs.Stream.{calm}
 use Rattle.stream.specs.Stream as flow
 use Rattle.bit_fields.specs.declared.KindAt.{KindAt}
@@ -27,12 +31,10 @@ use Rattle.plans.specs.Told.{Advance, bit_advance, flush_verdict, on_shift, said
 use Rattle.plans.specs.Plans.{entry_at, planned_in, run_at, width_by, widths_at, SoundBy, Sound}
 use Rattle.plans.proofs.Entries.{widths-step, run-below}
 use Rattle.chunk_lines.specs.declared.Chunk.{Chunk}
-use Rattle.chunk_lines.specs.declared.Held.{Held}
 use Rattle.chunk_lines.specs.Bits.{sum_to, alone_of, bits_of}
 use Rattle.chunk_lines.proofs.Fields.{bits-length}
 use Rattle.chunks.specs.declared.State.{State}
-use Rattle.chunks.specs.declared.Step.{Step}
-use Rattle.chunks.specs.Steps.{seen, alone_at, pushed, opened_state, passed_step, closed_after, close_advance, Closing, Advanced, Stepped}
+use Rattle.chunks.specs.Steps.{seen, alone_at, pushed, opened_state, closed_after, close_advance, Closing, verdict_of, Advanced}
 use Rattle.chunks.proofs.Grown.{sum_more, grown-bits}
 use Rattle.chunks.proofs.Advances.{next-below, closed_after_lem, grown, open-advance, closes}
 use Rattle.parser.specs.Driver.{said_in, is_alone}
@@ -40,7 +42,7 @@ use Rattle.parser.specs.Driver.{said_in, is_alone}
 -- ---- before entry k: the chunk has at most as many fields as were met, and so have it and the tested enums before it; its shift is the sum of its
 -- widths, and the bits to come fit
 
-pub record Going (plan : List PlanAt) (n k : ℕ) (t : State) (c : Chunk) (kinds : List Held) : Type 0 where
+pub record Going (plan : List PlanAt) (n k : ℕ) (t : State) (c : Chunk) (kinds : List KindAt) : Type 0 where
   pub few : c.len ≤ k
   pub numbers : t.nr ≤ k
   pub tested : t.raws + c.len ≤ k
@@ -50,17 +52,6 @@ pub record Going (plan : List PlanAt) (n k : ℕ) (t : State) (c : Chunk) (kinds
   pub widths-long : length c.widths ≡ 64
   pub kinds-long : length kinds ≡ 64
 
--- `is_alone`, by its tests
-module _ (len width : ℕ) where
-  pub alone-yes : len ≡ 0 → width % 8 ≡ 0 → true ≡ is_alone len width
-  alone-yes e f = sym (ap (λ (b : Bool). elim b as (λ _. Bool) [ true ↦ eqb (width % 8) 0 | false ↦ false ]) (eq-eqb _ _ e) ∙ eq-eqb _ _ f)
-
-  pub alone-ragged : len ≡ 0 → (width % 8 ≡ 0 → ⊥) → false ≡ is_alone len width
-  alone-ragged e f = sym (ap (λ (b : Bool). elim b as (λ _. Bool) [ true ↦ eqb (width % 8) 0 | false ↦ false ]) (eq-eqb _ _ e) ∙ ne_eqb _ _ f)
-
-  pub alone-no : (len ≡ 0 → ⊥) → false ≡ is_alone len width
-  alone-no e = sym (ap (λ (b : Bool). elim b as (λ _. Bool) [ true ↦ eqb (width % 8) 0 | false ↦ false ]) (ne_eqb _ _ e))
-
 -- a state behind a field that is no bit field
 module _ (s : flow.State) where
   said-after : (x : Said) → (said_advance (calm s) x).after ≡ calm s
@@ -68,35 +59,35 @@ module _ (s : flow.State) where
   said-after silent = refl
   said-after (stops why) = refl
 
-  by-flush : (must : Bool) (said : Said) (v : Verdict) → flush_verdict s.pending s.chunk ≡ v → (other_advance s must said).verdict ≡ Verdict.Pass
+  by-flush : (must : Bool) (said : Said) (v : Verdict) → flush_verdict s.pending s.chunk ≡ v → (other_advance s must said).verdict ≡ (Ok tt)
       → (other_advance s must said).after ≡ calm s
   unfolding other_advance
-  by-flush must said Verdict.Pass e p = rw (e, other_advance) (said-after (on_shift s.shift must said))
-  by-flush must said (Verdict.Refuse why) e p =
-      let q : Verdict.Refuse why ≡ Verdict.Pass =
+  by-flush must said (Ok tt) e p = rw (e, other_advance) (said-after (on_shift s.shift must said))
+  by-flush must said (Err why) e p =
+      let q : Err why ≡ (Ok tt) =
       ap (λ (v : Verdict). (elim v as (λ _. Advance) [
-        | Verdict.Pass ↦ said_advance (calm s) (on_shift s.shift must said)
-        | Verdict.Refuse why ↦ record { verdict = Verdict.Refuse why; lines = []; after = s }
+        | (Ok tt) ↦ said_advance (calm s) (on_shift s.shift must said)
+        | Err why ↦ record { verdict = Err why; lines = []; after = s }
       ]).verdict) (sym e) ∙ p in
       let z : ◌≡◌ {A = ℕ} 0 1 = cc in
       absurd (omega arith)
 
-  pub other_after : (must : Bool) (said : Said) → (other_advance s must said).verdict ≡ Verdict.Pass → (other_advance s must said).after ≡ calm s
+  pub other_after : (must : Bool) (said : Said) → (other_advance s must said).verdict ≡ (Ok tt) → (other_advance s must said).after ≡ calm s
   other_after must said p = by-flush must said (flush_verdict s.pending s.chunk) refl p
 
 module _ (o : Options) (s : Text) (plan : List PlanAt) (n : ℕ) where
-  abbrev pub fields_in : Chunk → List Held → List Bit
+  abbrev pub fields_in : Chunk → List KindAt → List Bit
   fields_in c kinds = bits_of o.arrays s (text "payload") c kinds c.len
 
   -- what entry k comes to, with chunk and kinds behind it
-  pub record Turned (k : ℕ) (t : State) (c : Chunk) (kinds : List Held) (out : Text) (p : ℕ) (r : Step) (d : Chunk) (held : List Held) (left : Text)
+  pub record Turned (k : ℕ) (t : State) (c : Chunk) (kinds : List KindAt) (old new : Writer) (r : Result State Refusal) (d : Chunk) (held : List KindAt)
       : Type 0 where
     pub steps : (bits : Part → ℕ)
         → Advanced (advance o (seen t (fields_in c kinds)) (planned_in o s bits (entry_at plan k)) (run_at plan (k + 1) (n - (k + 1))))
-        (fields_in d held) out p r left
-    pub going : r.verdict ≡ Verdict.Pass → Going plan n (k + 1) r.state d held
+        (fields_in d held) old new r
+    pub going : (u : State) → r ≡ Ok u → Going plan n (k + 1) u d held
 
-  module _ (k : ℕ) (t : State) (c : Chunk) (kinds : List Held) (h : k < n) (b : n ≤ 64) (z : Sound plan n) (g : Going plan n k t c kinds) where
+  module _ (k : ℕ) (t : State) (c : Chunk) (kinds : List KindAt) (h : k < n) (b : n ≤ 64) (z : Sound plan n) (g : Going plan n k t c kinds) where
     abbrev behind : ℕ
     behind = run_at plan (k + 1) (n - (k + 1))
 
@@ -115,20 +106,21 @@ module _ (o : Options) (s : Text) (plan : List PlanAt) (n : ℕ) where
       pub emit-fits : EmitFits emit
       emit-fits = sound-as other-is
 
-      pub turned-other : {out left : Text} {p : ℕ} {r : Step}
-          → ((bits : Part → ℕ) (bs : List Bit) → length bs ≡ c.len → Stepped t (other_advance (seen t bs) must (said_in o s bits emit)) bs out p r left)
-          → Turned k t c kinds out p r c kinds left
-      turned-other {out} {left} {p} {r} d =
+      pub turned-other : {old new : Writer} {r : Result State Refusal}
+          → ((bits : Part → ℕ) (bs : List Bit) → length bs ≡ c.len → Advanced (other_advance (seen t bs) must (said_in o s bits emit)) bs old new r)
+          → Turned k t c kinds old new r c kinds
+      turned-other {old} {new} {r} d =
           let l : length (fields_in c kinds) ≡ c.len = bits-length o.arrays s (text "payload") c kinds c.len in
           record {
             steps = λ bits.
                 subst (λ (x : PlanAt).
-                Advanced (advance o (seen t (fields_in c kinds)) (planned_in o s bits x) behind) (fields_in c kinds) out p r left)
-                other-is (d bits (fields_in c kinds) l).advances;
-            going = λ v.
-                let q : seen r.state (fields_in c kinds) ≡ calm (seen t (fields_in c kinds)) =
-                (d (λ id. 0) (fields_in c kinds) l).advances.goes_on v
-                ∙ other_after (seen t (fields_in c kinds)) must (said_in o s (λ id. 0) emit) (sym (d (λ id. 0) (fields_in c kinds) l).advances.verdict_is ∙ v) in
+                Advanced (advance o (seen t (fields_in c kinds)) (planned_in o s bits x) behind) (fields_in c kinds) old new r)
+                other-is (d bits (fields_in c kinds) l);
+            going = λ u v.
+                let q : seen u (fields_in c kinds) ≡ calm (seen t (fields_in c kinds)) =
+                IfOk-at_ok _ v (d (λ id. 0) (fields_in c kinds) l).goes_on
+                ∙ other_after (seen t (fields_in c kinds)) must (said_in o s (λ id. 0) emit)
+                (sym (d (λ id. 0) (fields_in c kinds) l).verdict_is ∙ ap verdict_of v) in
                 record {
                   few = omega (arith, g.few);
                   numbers = omega (arith, g.numbers, ap (λ (x : flow.State). x.chunk_nr) q);
@@ -166,25 +158,25 @@ module _ (o : Options) (s : Text) (plan : List PlanAt) (n : ℕ) where
       what = kind_in o.arrays s (text "payload") kind
 
       -- its advance, in the plan's words
-      turned : {out left : Text} {p : ℕ} {r : Step} (d : Chunk) (held : List Held)
-          → Advanced (bit_advance o (seen t (fields_in c kinds)) what width later) (fields_in d held) out p r left
-          → (r.verdict ≡ Verdict.Pass → Going plan n (k + 1) r.state d held) → Turned k t c kinds out p r d held left
-      turned {out} {left} {p} {r} d held a going = record {
+      turned : {old new : Writer} {r : Result State Refusal} (d : Chunk) (held : List KindAt)
+          → Advanced (bit_advance o (seen t (fields_in c kinds)) what width later) (fields_in d held) old new r
+          → ((u : State) → r ≡ Ok u → Going plan n (k + 1) u d held) → Turned k t c kinds old new r d held
+      turned {old} {new} {r} d held a going = record {
         steps = λ bits.
             subst (λ (x : PlanAt).
-            Advanced (advance o (seen t (fields_in c kinds)) (planned_in o s bits x) behind) (fields_in d held) out p r left) bit_is
-            (subst (λ (m : ℕ). Advanced (bit_advance o (seen t (fields_in c kinds)) what width m) (fields_in d held) out p r left) later-is a);
+            Advanced (advance o (seen t (fields_in c kinds)) (planned_in o s bits x) behind) (fields_in d held) old new r) bit_is
+            (subst (λ (m : ℕ). Advanced (bit_advance o (seen t (fields_in c kinds)) what width m) (fields_in d held) old new r) later-is a);
         going = going;
       }
 
       -- behind a chunk that closed, which leaves the arrays as they are
-      closed-going : (u : flow.State) → u.chunk_nr ≡ t.nr → u.raw_nr + length u.chunk ≤ k + 1 → (r : Step) (d : Chunk) (held : List Held) → d.len ≡ 0
-          → length d.shifts ≡ 64 → length d.widths ≡ 64 → length held ≡ 64 → seen r.state [] ≡ (close_advance o u later).after
-          → (close_advance o u later).verdict ≡ Verdict.Pass → Going plan n (k + 1) r.state d held
+      closed-going : (u : flow.State) → u.chunk_nr ≡ t.nr → u.raw_nr + length u.chunk ≤ k + 1 → (v : State) (d : Chunk) (held : List KindAt) → d.len ≡ 0
+          → length d.shifts ≡ 64 → length d.widths ≡ 64 → length held ≡ 64 → seen v [] ≡ (close_advance o u later).after
+          → (close_advance o u later).verdict ≡ (Ok tt) → Going plan n (k + 1) v d held
       unfolding sum_to
-      closed-going u nr raws r d held len ls lw lk q v =
-          let a : seen r.state [] ≡ closed_after u = q ∙ closed_after_lem o u later v in
-          let x : r.state.shift ≡ 0 = ap (λ (y : flow.State). y.shift) a in
+      closed-going u nr raws v d held len ls lw lk q e =
+          let a : seen v [] ≡ closed_after u = q ∙ closed_after_lem o u later e in
+          let x : v.shift ≡ 0 = ap (λ (y : flow.State). y.shift) a in
           record {
             few = omega (arith, len);
             numbers = omega (arith, g.numbers, nr, ap (λ (y : flow.State). y.chunk_nr) a, next-below u.chunk_nr u.chunk);
@@ -201,22 +193,22 @@ module _ (o : Options) (s : Text) (plan : List PlanAt) (n : ℕ) where
         alone-len : yes ≡ true → c.len ≡ 0
         alone-len f = eqb-true c.len 0 (first (eqb c.len 0) (eqb (width % 8) 0) (sym ey ∙ f))
           where
-            first : (a b : Bool) → (elim a as (λ _. Bool) [ true ↦ b | false ↦ false ]) ≡ true → a ≡ true
+            first : (a b : Bool) → (a && b) ≡ true → a ≡ true
             first true b q = refl
             first false b q = q
 
         alone-whole : yes ≡ true → width % 8 ≡ 0
         alone-whole f = eqb-true (width % 8) 0 (second (eqb c.len 0) (eqb (width % 8) 0) (sym ey ∙ f))
           where
-            second : (a b : Bool) → (elim a as (λ _. Bool) [ true ↦ b | false ↦ false ]) ≡ true → b ≡ true
+            second : (a b : Bool) → (a && b) ≡ true → b ≡ true
             second true b q = q
             second false b q = let z : ◌≡◌ {A = ℕ} 0 1 = cc in absurd (omega arith)
 
-        pub turned-alone : yes ≡ true → {out left : Text} {p : ℕ} {r : Step}
-            → Stepped t (close_advance o (alone_at t width (alone_of o.arrays s (text "payload") width kind)) later) [] out p r left
-            → Turned k t c kinds out p r c kinds left
+        pub turned-alone : yes ≡ true → {old new : Writer} {r : Result State Refusal}
+            → Advanced (close_advance o (alone_at t width (alone_of o.arrays s (text "payload") width kind)) later) [] old new r
+            → Turned k t c kinds old new r c kinds
         unfolding bits_of sum_to
-        turned-alone f {out} {left} {p} {r} d =
+        turned-alone f {old} {new} {r} d =
             let len : c.len ≡ 0 = alone-len f in
             let none : fields_in c kinds ≡ [] = ap (bits_of o.arrays s (text "payload") c kinds) len in
             let zero-shift : t.shift ≡ 0 = g.sum ∙ ap (sum_to c.widths) len in
@@ -243,17 +235,17 @@ module _ (o : Options) (s : Text) (plan : List PlanAt) (n : ℕ) where
               pending = t.pending;
             }) (sym none) in
             turned c kinds
-            (subst (λ (bs : List Bit). Advanced (bit_advance o (seen t (fields_in c kinds)) what width later) bs out p r left) (sym none)
+            (subst (λ (bs : List Bit). Advanced (bit_advance o (seen t (fields_in c kinds)) what width later) bs old new r) (sym none)
             (closes o (seen t (fields_in c kinds)) what width later
             (ap (λ (x : ℕ). x % 8) (let y : t.shift + width ≡ width = omega (arith, zero-shift) in y) ∙ alone-whole f)
-            (subst (λ (u : flow.State). Advanced (close_advance o u later) [] out p r left) as-grown d.advances)))
-            (λ v. closed-going _ refl (omega (arith, g.tested, len)) r c kinds len g.shifts-long g.widths-long g.kinds-long (d.advances.goes_on v)
-            (sym d.advances.verdict_is ∙ v))
+            (subst (λ (u : flow.State). Advanced (close_advance o u later) [] old new r) as-grown d)))
+            (λ u v. closed-going _ refl (omega (arith, g.tested, len)) u c kinds len g.shifts-long g.widths-long g.kinds-long (IfOk-at_ok _ v d.goes_on)
+            (sym d.verdict_is ∙ ap verdict_of v))
 
         -- in a chunk with others
         module _ (f : yes ≡ false) {d : Chunk} (ed : d ≡ pushed c t.shift width) {u : State} (eu : u ≡ opened_state t width) where
-          abbrev held : List Held
-          held = set kinds c.len (record { kind = kind })
+          abbrev held : List KindAt
+          held = set kinds c.len kind
 
           d-long : length d.shifts ≡ 64
           d-long = ap (λ (x : Chunk). length x.shifts) ed ∙ length-set c.shifts c.len t.shift ∙ g.shifts-long
@@ -262,7 +254,7 @@ module _ (o : Options) (s : Text) (plan : List PlanAt) (n : ℕ) where
           d-wide = ap (λ (x : Chunk). length x.widths) ed ∙ length-set c.widths c.len width ∙ g.widths-long
 
           held-long : length held ≡ 64
-          held-long = length-set kinds c.len (record { kind = kind }) ∙ g.kinds-long
+          held-long = length-set kinds c.len kind ∙ g.kinds-long
 
           len_is : d.len ≡ c.len + 1
           len_is = ap (λ (x : Chunk). x.len) ed
@@ -294,18 +286,18 @@ module _ (o : Options) (s : Text) (plan : List PlanAt) (n : ℕ) where
               }) bits_are
 
           -- which stays open
-          opened-turn : (u.shift % 8 ≡ 0 → ⊥) → (out : Text) (p : ℕ) → length out < 2 ^ 63 → Turned k t c kinds out p (passed_step p u) d held out
-          opened-turn w out p l =
+          pub turned-open : (u.shift % 8 ≡ 0 → ⊥) → (old : Writer) → length old.out.now < 2 ^ 63 → Turned k t c kinds old old (Ok u) d held
+          turned-open w old l =
               let q : bit_advance o (seen t (fields_in c kinds)) what width later
-              ≡ record { verdict = Verdict.Pass; lines = []; after = grown o (seen t (fields_in c kinds)) what width later } =
+              ≡ record { verdict = (Ok tt); lines = []; after = grown o (seen t (fields_in c kinds)) what width later } =
               open-advance o (seen t (fields_in c kinds)) what width later (λ q. w (ap (λ (x : ℕ). x % 8) shift_is ∙ q)) in
               turned d held
               (record {
                 verdict_is = ap (λ (x : Advance). x.verdict) (sym q);
-                wrote = like (ap (λ (x : Advance). x.lines) (sym q)) (still out p l);
-                goes_on = λ v. seen_as ∙ ap (λ (x : Advance). x.after) (sym q);
+                wrote = alike (ap (λ (x : Advance). x.lines) (sym q)) (nothing old l);
+                goes_on = seen_as ∙ ap (λ (x : Advance). x.after) (sym q);
               })
-              (λ v. record {
+              (λ v e. going-as (ok-is e) (record {
                 few = omega (arith, g.few, len_is);
                 numbers = omega (arith, g.numbers, ap (λ (x : State). x.nr) eu);
                 tested = omega (arith, g.tested, len_is, ap (λ (x : State). x.raws) eu);
@@ -314,11 +306,13 @@ module _ (o : Options) (s : Text) (plan : List PlanAt) (n : ℕ) where
                 shifts-long = d-long;
                 widths-long = d-wide;
                 kinds-long = held-long;
-              })
+              }))
+            where
+              going-as : {v : State} → u ≡ v → Going plan n (k + 1) u d held → Going plan n (k + 1) v d held
+              going-as e x = subst (λ (v : State). Going plan n (k + 1) v d held) e x
 
-          pub turned-open : (u.shift % 8 ≡ 0 → ⊥) → (out : Text) (p : ℕ) → length out < 2 ^ 63 → {r : Step} → r ≡ passed_step p u
-              → Turned k t c kinds out p r d held out
-          turned-open w out p l er = subst (λ (r : Step). Turned k t c kinds out p r d held out) (sym er) (opened-turn w out p l)
+              ok-is : {v : State} → ◌≡◌ {A = Result State Refusal} (Ok u) (Ok v) → u ≡ v
+              ok-is e = cc
 
           -- which closes
           module _ (w : u.shift % 8 ≡ 0) where
@@ -347,15 +341,15 @@ module _ (o : Options) (s : Text) (plan : List PlanAt) (n : ℕ) where
               tested = omega (arith, g.tested, h, b, ap (λ (x : State). x.raws) eu);
             }
 
-            pub turned-closed : {out left : Text} {p : ℕ} {r : Step}
-                → Stepped u (close_advance o (seen u (fields_in d held)) later) [] out p r left
-                → Turned k t c kinds out p r (record { shifts = d.shifts; widths = d.widths; len = 0 }) held left
+            pub turned-closed : {old new : Writer} {r : Result State Refusal}
+                → Advanced (close_advance o (seen u (fields_in d held)) later) [] old new r
+                → Turned k t c kinds old new r (record { shifts = d.shifts; widths = d.widths; len = 0 }) held
             unfolding bits_of
-            turned-closed {out} {left} {p} {r} x =
+            turned-closed {old} {new} {r} x =
                 turned (record { shifts = d.shifts; widths = d.widths; len = 0 }) held
                 (closes o (seen t (fields_in c kinds)) what width later (ap (λ (y : ℕ). y % 8) (sym shift_is) ∙ w)
-                (subst (λ (y : flow.State). Advanced (close_advance o y later) [] out p r left) seen_as x.advances))
-                (λ v. closed-going (seen u (fields_in d held)) (ap (λ (y : State). y.nr) eu)
-                (omega (arith, g.tested, len_is, ap (λ (y : State). y.raws) eu, bits-length o.arrays s (text "payload") d held d.len)) r _ held
-                refl d-long d-wide held-long (x.advances.goes_on v)
-                (sym x.advances.verdict_is ∙ v))
+                (subst (λ (y : flow.State). Advanced (close_advance o y later) [] old new r) seen_as x))
+                (λ v e. closed-going (seen u (fields_in d held)) (ap (λ (y : State). y.nr) eu)
+                (omega (arith, g.tested, len_is, ap (λ (y : State). y.raws) eu, bits-length o.arrays s (text "payload") d held d.len)) v _ held
+                refl d-long d-wide held-long (IfOk-at_ok _ e x.goes_on)
+                (sym x.verdict_is ∙ ap verdict_of e))

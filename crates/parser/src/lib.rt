@@ -11,210 +11,116 @@ ghost use Rattle.stream.specs.Stream.{fresh, calm};
 ghost use Rattle.emits.specs.BlockOf.{EmitFits};
 ghost use Rattle.plans.specs.Told.{said_advance, other_advance, tell};
 ghost use Rattle.plans.specs.Plans.{plans_from, Sound};
-ghost use Rattle.chunks.specs.Steps.{seen, Stepped};
-ghost use Rattle.parser.specs.Driver.{said_in, misplaced, is_alone, is_refused, done_by, Tells};
+ghost use Rattle.chunks.specs.Steps.{seen, Advanced};
+ghost use Rattle.parser.specs.Driver.{said_in, misplaced, is_alone, Tells};
 
 use bit_fields::KindAt;
-use chunk_lines::Held;
-use chunks::{State, Step};
-use definitions::{Options, Refusal, Verdict};
+use chunks::State;
+use definitions::{Options, Refusal};
 use emits::EmitAt;
 use plans::PlanAt;
-
-// The answer, and the place behind the lines.
-#[derive(Clone, Copy)]
-pub struct Lowered {
-    pub verdict: Verdict,
-    pub at: usize,
-}
+use text::Writer;
 
 // ---- `parse`, of a field that is no bit field
 
 // What it emits, where nothing is pending any more.
 fn append<'a>(
     rec: &'a [u8],
-    out: &mut [u8],
-    at: usize,
+    w: &mut Writer,
     options: Options,
     t: State,
     emit: EmitAt,
-) -> Step
+) -> Result<State, Refusal>
     requires { EmitFits emit }
     ensures { let s : Text = rec.now in
         ((bits : Part → ℕ) (bs : List Bit)
-        → Stepped t (said_advance (calm (seen t bs)) (said_in options s bits emit)) bs out.old at result out.new) }
+        → Advanced (said_advance (calm (seen t bs)) (said_in options s bits emit)) bs w.old w.new result) }
 {
-    let u = State {
-        shift: t.shift,
-        nr: t.nr,
-        raws: t.raws,
-        pending: false,
-    };
     match emit {
-        EmitAt::Appends(block) => Step {
-            verdict: Verdict::Pass,
-            at: field_lines::put_block(rec, b"payload", out, at, options, block),
-            state: u,
-        },
-        EmitAt::Silent => Step {
-            verdict: Verdict::Pass,
-            at,
-            state: u,
-        },
-        EmitAt::Refuses(why) => Step {
-            verdict: Verdict::Refuse(why),
-            at,
-            state: t,
-        },
+        EmitAt::Appends(block) => field_lines::put_block(rec, b"payload", w, options, block),
+        EmitAt::Silent => {}
+        EmitAt::Refuses(why) => return Err(why),
     }
+    Ok(State {
+        pending: false,
+        ..t
+    })
 }
 
 // 11: an open chunk, of so many bits.
 pub fn is_misplaced(aligned: bool, shift: u64) -> bool
     ensures { result ≡ misplaced aligned shift }
 {
-    if aligned {
-        if shift == 0 {
-            return false;
-        }
-        return true;
-    }
-    false
+    aligned && shift != 0
 }
 
 // It first flushes what is pending; the open chunk has `len` fields.
 fn parse_other_field<'a>(
     rec: &'a [u8],
-    out: &mut [u8],
-    at: usize,
+    w: &mut Writer,
     options: Options,
     t: State,
     len: usize,
     aligned: bool,
     emit: EmitAt,
-) -> Step
+) -> Result<State, Refusal>
     requires { EmitFits emit }
     ensures { let s : Text = rec.now in
         ((bits : Part → ℕ) (bs : List Bit) → length bs ≡ len
-        → Stepped t (other_advance (seen t bs) aligned (said_in options s bits emit)) bs out.old at result out.new) }
+        → Advanced (other_advance (seen t bs) aligned (said_in options s bits emit)) bs w.old w.new result) }
 {
-    match chunks::check_code(t.pending, len) {
-        Verdict::Refuse(why) => Step {
-            verdict: Verdict::Refuse(why),
-            at,
-            state: t,
-        },
-        Verdict::Pass => {
-            if is_misplaced(aligned, t.shift) {
-                return Step {
-                    verdict: Verdict::Refuse(Refusal::OctetBoundary),
-                    at,
-                    state: t,
-                };
-            }
-            append(rec, out, at, options, t, emit)
-        }
+    chunks::check_code(t.pending, len)?;
+    if is_misplaced(aligned, t.shift) {
+        return Err(Refusal::OctetBoundary);
     }
+    append(rec, w, options, t, emit)
 }
 
 // ---- all fields, and the end
-
-pub fn is_refused(verdict: Verdict) -> bool
-    ensures { result ≡ is_refused verdict }
-{
-    match verdict {
-        Verdict::Pass => false,
-        Verdict::Refuse(_) => true,
-    }
-}
-
-// The last field's step, and a chunk of so many fields that is still open. A refusal has no lines.
-fn done(step: Step, len: usize, at: usize) -> Lowered
-    ensures { result ≡ done_by step len at }
-{
-    let verdict = step.verdict;
-    if is_refused(verdict) {
-        return Lowered { verdict, at };
-    }
-    let t = step.state;
-    let checked = chunks::check_code(t.pending, len);
-    if is_refused(checked) {
-        return Lowered {
-            verdict: checked,
-            at,
-        };
-    }
-    Lowered {
-        verdict: checked,
-        at: step.at,
-    }
-}
 
 // A bit field fills its chunk: none is open, and it has whole octets.
 fn is_alone(len: usize, width: u64) -> bool
     ensures { result ≡ is_alone len width }
 {
-    if len == 0 {
-        if width % 8 == 0 {
-            return true;
-        }
-        return false;
-    }
-    false
+    len == 0 && width % 8 == 0
 }
 
-// The lines of a target of n fields by its plan. On a refusal, what the fields before wrote stays in the buffer.
+// The lines of a target of n fields by its plan, which is of fixed size, since no memory is asked for. On a refusal, what the fields before wrote stays in
+// the buffer.
 pub fn lower_target<'a>(
     rec: &'a [u8],
-    out: &mut [u8],
-    at: usize,
+    w: &mut Writer,
     options: Options,
     plan: [PlanAt; 64],
     n: usize,
-) -> Lowered
+) -> Result<(), Refusal>
     requires { (n ≤ 64) × Sound plan n }
     ensures { let s : Text = rec.now in
-        ((bits : Part → ℕ) → Tells (tell options fresh (plans_from options s bits plan 0 n)) out.old at result out.new) }
+        ((bits : Part → ℕ) → Tells (tell options fresh (plans_from options s bits plan 0 n)) w.old w.new result) }
 {
-    let none = KindAt::Reserved;
-    let mut kinds = [Held { kind: none }; 64];
+    let mut kinds = [KindAt::Reserved; 64];
     let mut c = chunks::empty();
-    let mut step = chunks::new(at);
-    let mut k = 0;
-    while k < n {
-        let verdict = step.verdict;
-        if is_refused(verdict) {
-            return Lowered { verdict, at };
-        }
-        let p = step.at;
-        let t = step.state;
-        let len = c.len;
-        let here = plan[k];
-        match here {
+    let mut t = chunks::new();
+    for k in 0..n {
+        match plan[k] {
             PlanAt::Other { aligned, emit } => {
-                step = parse_other_field(rec, out, p, options, t, len, aligned, emit);
-                k += 1;
+                t = parse_other_field(rec, w, options, t, c.len, aligned, emit)?;
             }
             PlanAt::Bit { width, later, kind } => {
-                if is_alone(len, width) {
-                    step = chunks::close_alone(rec, out, p, options, t, width, later, kind);
-                    k += 1;
+                if is_alone(c.len, width) {
+                    t = chunks::close_alone(rec, w, options, t, width, later, kind)?;
                 } else {
-                    let h = Held { kind };
-                    kinds[len] = h;
+                    kinds[c.len] = kind;
                     c = chunks::grow(c, t.shift, width);
-                    let u = chunks::opened(t, width);
-                    if u.shift % 8 == 0 {
-                        step = chunks::close(rec, out, p, options, u, c, kinds, later);
+                    t = chunks::opened(t, width);
+                    if t.shift % 8 == 0 {
+                        t = chunks::close(rec, w, options, t, c, kinds, later)?;
                         c.len = 0;
-                        k += 1;
-                    } else {
-                        step = chunks::stepped(p, u);
-                        k += 1;
                     }
                 }
             }
         }
     }
-    done(step, c.len, at)
+    // `done`
+    chunks::check_code(t.pending, c.len)
 }

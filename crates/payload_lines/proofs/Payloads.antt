@@ -7,56 +7,57 @@ use Rattle.definitions.specs.Bytes.{Text, text, decimal}
 use Rattle.definitions.specs.Lines.{expr_text}
 use Rattle.definitions.specs.Blocks.{actual_size, Block}
 use Rattle.definitions.specs.declared.Modifier.{Modifier}
-use Rattle.text.specs.Put.{Put}
-use Rattle.text.proofs.Puts.{chain, like}
+use Rattle.text.specs.Wrote.{Wrote}
+use Rattle.text.specs.declared.Writer.{Writer}
+use Rattle.text.proofs.Wrotes.{then, alike}
 use Rattle.stream.specs.Stream.{block_text}
 use Rattle.stream.proofs.Texts.{piece, ◌▸◌, expr-leads}
 use Rattle.expressions.proofs.Follow.{follow}
 use Rattle.payload_lines.specs.Texts.{changed_size}
 
-pub changed-size : (before x sign : Text) (n : ℕ) (behind : Text) {l l₁ l₂ l₃ l₄ : Text} {i r₁ r₂ r₃ r₄ : ℕ} → Put l i before r₁ l₁
-    → Put l₁ r₁ (text "(" ++ (x ++ sign)) r₂ l₂
-    → Put l₂ r₂ (decimal n ++ text ")") r₃ l₃
-    → Put l₃ r₃ behind r₄ l₄
-    → Put l i (changed_size before x sign n behind) r₄ l₄
+pub changed-size : (before x sign : Text) (n : ℕ) (behind : Text) {u u₁ u₂ u₃ u₄ : Writer} → Wrote u u₁ before
+    → Wrote u₁ u₂ (text "(" ++ (x ++ sign))
+    → Wrote u₂ u₃ (decimal n ++ text ")")
+    → Wrote u₃ u₄ behind
+    → Wrote u u₄ (changed_size before x sign n behind)
 unfolding changed_size
-changed-size before x sign n behind a b c d = like (simp append_assoc) (chain a (chain b (chain c d)))
+changed-size before x sign n behind a b c d = alike (simp append_assoc) (then a (then b (then c d)))
 
-module _ (before behind x : Text) (m : Modifier) {l l₁ : Text} {i r : ℕ} where
-  pub size-as-is : m ≡ Modifier.None → Put l i (before ++ (x ++ behind)) r l₁ → Put l i (before ++ expr_text (actual_size m x) behind) r l₁
+module _ (before behind x : Text) (m : Modifier) {u u₁ : Writer} where
+  pub size-as-is : m ≡ Modifier.None → Wrote u u₁ (before ++ (x ++ behind)) → Wrote u u₁ (before ++ expr_text (actual_size m x) behind)
   size-as-is e p = rw e p
 
-  pub size_less : (n : ℕ) → m ≡ Modifier.Plus n → Put l i (changed_size before x (text " - ") n behind) r l₁
-      → Put l i (before ++ expr_text (actual_size m x) behind) r l₁
+  pub size_less : (n : ℕ) → m ≡ Modifier.Plus n → Wrote u u₁ (changed_size before x (text " - ") n behind)
+      → Wrote u u₁ (before ++ expr_text (actual_size m x) behind)
   unfolding changed_size
   size_less n e p = rw e p
 
-  pub size-more : (n : ℕ) → m ≡ Modifier.Minus n → Put l i (changed_size before x (text " + ") n behind) r l₁
-      → Put l i (before ++ expr_text (actual_size m x) behind) r l₁
+  pub size-more : (n : ℕ) → m ≡ Modifier.Minus n → Wrote u u₁ (changed_size before x (text " + ") n behind)
+      → Wrote u u₁ (before ++ expr_text (actual_size m x) behind)
   unfolding changed_size
   size-more n e p = rw e p
 
 module _ (x s : Text) (m : Modifier) where
-  pub sized-payload : {l l₁ l₂ l₃ l₄ : Text} {i r₁ r₂ r₃ r₄ : ℕ}
-      → Put l i (text "if (span.size() < " ++ expr_text (actual_size m s) (text ") return false;\n")) r₁ l₁
-      → Put l₁ r₁ x r₂ l₂
-      → Put l₂ r₂ (text " = span.subrange(0, " ++ expr_text (actual_size m s) (text ");\n")) r₃ l₃
-      → Put l₃ r₃ (text "span.skip(" ++ expr_text (actual_size m s) (text ");\n")) r₄ l₄
-      → Put l i (block_text (Block.sized_payload x s m)) r₄ l₄
+  pub sized-payload : {u u₁ u₂ u₃ u₄ : Writer}
+      → Wrote u u₁ (text "if (span.size() < " ++ expr_text (actual_size m s) (text ") return false;\n"))
+      → Wrote u₁ u₂ x
+      → Wrote u₂ u₃ (text " = span.subrange(0, " ++ expr_text (actual_size m s) (text ");\n"))
+      → Wrote u₃ u₄ (text "span.skip(" ++ expr_text (actual_size m s) (text ");\n"))
+      → Wrote u u₄ (block_text (Block.sized_payload x s m))
   unfolding block_text
   sized-payload a b c d =
       follow (piece (text "if (span.size() < ") ▸ expr-leads (actual_size m s) ▸ piece (text ") return false;\n")) a
-      (chain b (follow (piece (text " = span.subrange(0, ") ▸ expr-leads (actual_size m s) ▸ piece (text ");\n")) c d))
+      (then b (follow (piece (text " = span.subrange(0, ") ▸ expr-leads (actual_size m s) ▸ piece (text ");\n")) c d))
 
 module _ (x : Text) where
-  pub payload-up-to : (n : ℕ) {l l₁ l₂ l₃ l₄ : Text} {i r₁ r₂ r₃ r₄ : ℕ} → Put l i (text "if (span.size() < " ++ (decimal n ++ text ") return false;\n")) r₁ l₁
-      → Put l₁ r₁ x r₂ l₂
-      → Put l₂ r₂ (text " = span.subrange(0, span.size() - " ++ (decimal n ++ text ");\n")) r₃ l₃
-      → Put l₃ r₃ (text "span.skip(span.size() - " ++ (decimal n ++ text ");\n")) r₄ l₄
-      → Put l i (block_text (Block.payload_up_to x n)) r₄ l₄
+  pub payload-up-to : (n : ℕ) {u u₁ u₂ u₃ u₄ : Writer} → Wrote u u₁ (text "if (span.size() < " ++ (decimal n ++ text ") return false;\n"))
+      → Wrote u₁ u₂ x
+      → Wrote u₂ u₃ (text " = span.subrange(0, span.size() - " ++ (decimal n ++ text ");\n"))
+      → Wrote u₃ u₄ (text "span.skip(span.size() - " ++ (decimal n ++ text ");\n"))
+      → Wrote u u₄ (block_text (Block.payload_up_to x n))
   unfolding block_text
-  payload-up-to n a b c d = like (simp append_assoc) (chain a (chain b (chain c d)))
+  payload-up-to n a b c d = alike (simp append_assoc) (then a (then b (then c d)))
 
-  pub payload-to-end : {l l₁ : Text} {i r : ℕ} → Put l i (x ++ text " = span;\nspan.clear();\n") r l₁ → Put l i (block_text (Block.payload_to_end x)) r l₁
+  pub payload-to-end : {u u₁ : Writer} → Wrote u u₁ (x ++ text " = span;\nspan.clear();\n") → Wrote u u₁ (block_text (Block.payload_to_end x))
   unfolding block_text
   payload-to-end p = p

@@ -1,6 +1,8 @@
 -- The tables that the reader left give the declarations of the record back (`declarations_from` of `tables_from`), where no name is a keyword.
 -- Assumes nothing.
-use Prim.Native.Nat.{ℕ, zero, suc, ◌+◌, ◌*◌, ◌-◌, ◌/◌, ◌≤◌, ◌<◌}
+use Rattle.std.specs.Prelude.{Some, None, Ok, Err}
+use Rattle.definitions.specs.Record.{Read, decl_at, fields_behind, declarations_at, on_read, on_fields, Fields, fields_are, no_fields, Declaration, Declarations, declarations_are, no_declarations, with_declaration}
+use Prim.Native.Nat.{ℕ, zero, suc, ◌+◌, ◌*◌, ◌/◌, ◌≤◌, ◌<◌}
 use mathlib.Core.Bool.{Bool, true, false}
 use mathlib.Core.List.{List, [], ◌∷◌, ◌++◌, append_assoc}
 use mathlib.Core.Path.{◌≡◌, refl, sym, ap, ◌∙◌, subst}
@@ -11,20 +13,16 @@ use lib.Dec.{ltb}
 use lib.ListN.{length, get_or, take, drop, set}
 use lib.Seq.{sets, sets-eq, length-sets, take-set-le, take-add, drop-cons, drop_at, take_at, length-take-le}
 use Rattle.definitions.specs.Bytes.{Text, pick}
-use Rattle.definitions.specs.Record.{decl_at, fields_behind, declarations_at, on_decl, on_fields, Fields, fields_are, no_fields, Declaration, Declarations, declarations_are, no_declarations, with_declaration}
 use Rattle.definitions.specs.Refusals.{any_keyword, decl_names, fields_names, declarations_names, is_frame}
 use Rattle.definitions.specs.declared.Field.{Field}
 use Rattle.definitions.specs.declared.Decl.{Decl}
-use Rattle.definitions.specs.declared.DeclRead.{DeclRead}
-use Rattle.definitions.specs.declared.ScreenedDecl.{ScreenedDecl}
 use Rattle.keywords.specs.Screens.{screen_decl}
 use Rattle.keywords.proofs.Names.{keyword-neither}
 use Rattle.tables.specs.Words.{field_words, decl_words}
 use Rattle.tables.specs.Tables.{Tables, decl_here, count_here, field_here, fields_from, declaration_in, declarations_from}
 use Rattle.tables.proofs.Entries.{field-same, decl-same}
 use Rattle.tables.proofs.Again.{get_d-before, here-again, decl-again, count-again}
-use Rattle.places.specs.declared.FieldsRead.{FieldsRead}
-use Rattle.places.specs.Places.{field_keys, with_values, with_row, given, with_decl, with_fields, screen_fields, decl_read, tables_with, tables_from, up_to_behind}
+use Rattle.places.specs.Places.{counted, field_keys, with_values, with_row, given, with_decl, with_fields, screen_fields, decl_read, tables_with, tables_from, up_to_behind}
 use Rattle.places.proofs.Ends.{Ends, decl-ends}
 use Rattle.places.proofs.Screened.{decl_on, decl-read}
 use Rattle.places.proofs.Filling.{length-values, tail_tables}
@@ -70,17 +68,16 @@ hold-more s t i at d xs ys q ds u e a h = record {
 }
 
 -- one declaration in front of the others
-module _ (s : Text) (fuel i at : ℕ) (t : Tables) {d : Decl} {p : ℕ} (ed : decl_at s at ≡ DeclRead.Is d p) {xs : List Field} {q : ℕ}
+module _ (s : Text) (fuel i at : ℕ) (t : Tables) {d : Decl} {p : ℕ} (ed : decl_at s at ≡ Some (d, p)) {xs : List Field} {q : ℕ}
     (ef : fields_behind s d.desc p ≡ fields_are xs q) (own : any_keyword s (decl_names d) ≡ false) (theirs : any_keyword s (fields_names xs) ≡ false) where
-  decl-free : screen_decl s (decl_at s at) ≡ ScreenedDecl.Is d p
-  decl-free = ap (screen_decl s) ed ∙ ap (λ (k : Bool). pick k (ScreenedDecl.Keyword p (is_frame d.desc)) (ScreenedDecl.Is d p)) own
+  decl-free : screen_decl s (decl_at s at) ≡ Some (Ok d, p)
+  decl-free = ap (screen_decl s) ed ∙ ap (λ (k : Bool). pick k (Some (Err (is_frame d.desc), p)) (Some (Ok d, p))) own
 
-  fields_free : screen_fields s false 0 (fields_behind s d.desc p) ≡ FieldsRead.Is (length xs) q
+  fields_free : screen_fields s false 0 (fields_behind s d.desc p) ≡ Some (Some (length xs), q)
   fields_free =
-      ap (screen_fields s false 0) ef ∙ ap (λ (k : Bool). pick k (FieldsRead.Keyword q) (FieldsRead.Is (0 + length xs) q)) theirs
-      ∙ ap (λ (n : ℕ). FieldsRead.Is n q) (zero-add (length xs))
+      ap (screen_fields s false 0) ef ∙ ap (λ (k : Bool). counted k (0 + length xs) q) theirs ∙ ap (λ (n : ℕ). counted false n q) (zero-add (length xs))
 
-  one-read : decl_read s false at ≡ FieldsRead.Is (length xs) q
+  one-read : decl_read s false at ≡ Some (Some (length xs), q)
   one-read = decl-read s false at ∙ ap (decl_on s false) decl-free ∙ fields_free
 
   one_written : tables_with s i at t ≡ with_decl (with_fields t i (up_to_behind s d.desc p)) i d (length xs)
@@ -115,7 +112,7 @@ tables-hold s (suc fuel) i at t ds e free = by (decl_at s at) refl e (tables-hol
     on-tail ih false q l u es h k =
         subst (λ (x : List Declaration). Hold s u (i + 1) q x u) (let z : [] ≡ es = cc in z) (hold-none s u (i + 1) q l)
 
-    with_tail : Ih → (d : Decl) (p : ℕ) → decl_at s at ≡ DeclRead.Is d p → (xs : List Field) (q : ℕ) → fields_behind s d.desc p ≡ fields_are xs q
+    with_tail : Ih → (d : Decl) (p : ℕ) → decl_at s at ≡ Some (d, p) → (xs : List Field) (q : ℕ) → fields_behind s d.desc p ≡ fields_are xs q
         → (r : Declarations) → tail (ltb q (length s)) q ≡ r → with_declaration (record { decl = d; fields = xs }) r ≡ declarations_are ds
         → Hold s t i at ds (tables_from s (suc fuel) i at t)
     with_tail ih d p ed xs q ef (declarations_are es) er h =
@@ -137,20 +134,20 @@ tables-hold s (suc fuel) i at t ds e free = by (decl_at s at) refl e (tables-hol
         next c a ys = with_decl (with_fields t i (up_to_behind s c.desc a)) i c (length ys)
     with_tail ih d p ed xs q ef no_declarations er h = absurd (let v : ◌≡◌ {A = ℕ} 0 1 = cc in omega arith)
 
-    on-fields : Ih → (d : Decl) (p : ℕ) → decl_at s at ≡ DeclRead.Is d p → (f : Fields) → fields_behind s d.desc p ≡ f
+    on-fields : Ih → (d : Decl) (p : ℕ) → decl_at s at ≡ Some (d, p) → (f : Fields) → fields_behind s d.desc p ≡ f
         → on_fields f no_declarations (λ xs q. with_declaration (record { decl = d; fields = xs }) (tail (ltb q (length s)) q)) ≡ declarations_are ds
         → Hold s t i at ds (tables_from s (suc fuel) i at t)
     on-fields ih d p ed (fields_are xs q) ef h = with_tail ih d p ed xs q ef (tail (ltb q (length s)) q) refl h
     on-fields ih d p ed no_fields ef h = absurd (let v : ◌≡◌ {A = ℕ} 0 1 = cc in omega arith)
 
-    by : (g : DeclRead) → decl_at s at ≡ g
-        → on_decl g no_declarations (λ d p.
+    by : (g : Read Decl) → decl_at s at ≡ g
+        → on_read g no_declarations (λ d p.
         on_fields (fields_behind s d.desc p) no_declarations λ xs q. with_declaration (record { decl = d; fields = xs }) (tail (ltb q (length s)) q))
         ≡ declarations_are ds
         → Ih
         → Hold s t i at ds (tables_from s (suc fuel) i at t)
-    by (DeclRead.Is d p) ed h ih = on-fields ih d p ed (fields_behind s d.desc p) refl h
-    by DeclRead.Wrong ed h ih = absurd (let v : ◌≡◌ {A = ℕ} 0 1 = cc in omega arith)
+    by (Some (d, p)) ed h ih = on-fields ih d p ed (fields_behind s d.desc p) refl h
+    by None ed h ih = absurd (let v : ◌≡◌ {A = ℕ} 0 1 = cc in omega arith)
 
 -- ---- runs of stores
 

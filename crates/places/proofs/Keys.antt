@@ -1,6 +1,9 @@
 -- The fields that follow one another: the key of each is its place, each starts 16 bytes or more behind the one before it, and those that are read
 -- are the declaration's, where no name in them is a keyword.
 -- Assumes nothing.
+use Rattle.std.specs.Prelude.{Option, Some, None}
+use Rattle.definitions.specs.Record.{Read, key_at, on_found, on_read, desc_at, cond_at, field_at, fields_at, fields_behind, Fields, fields_are, no_fields, with_field}
+use Rattle.definitions.specs.declared.Condition.{Condition}
 use Prim.Native.Nat.{ℕ, zero, suc, ◌+◌, ◌≤◌}
 use mathlib.Core.Bool.{Bool, false}
 use mathlib.Core.List.{List, [], ◌∷◌}
@@ -8,41 +11,35 @@ use mathlib.Core.Path.{◌≡◌, refl, sym, ap, ◌∙◌, subst}
 use native.Mathlib.Omega.{arith}
 use lib.ListN.{length}
 use Rattle.definitions.specs.Bytes.{Text, text, pick}
-use Rattle.definitions.specs.Record.{key_at, on_found, on_desc, on_cond, on_field, desc_at, cond_at, field_at, fields_at, fields_behind, Fields, fields_are, no_fields, with_field}
 use Rattle.definitions.specs.Refusals.{any_keyword, field_names, fields_names}
 use Rattle.definitions.specs.declared.FieldDesc.{FieldDesc}
 use Rattle.definitions.specs.declared.Field.{Field}
 use Rattle.definitions.specs.declared.DeclDesc.{DeclDesc}
-use Rattle.definitions.specs.declared.Found.{Found}
-use Rattle.definitions.specs.declared.DescRead.{DescRead}
-use Rattle.definitions.specs.declared.CondRead.{CondRead}
-use Rattle.definitions.specs.declared.FieldRead.{FieldRead}
-use Rattle.definitions.specs.declared.ScreenedField.{ScreenedField}
 use Rattle.keywords.specs.Screens.{screen_field}
 use Rattle.keywords.proofs.Names.{keyword-neither}
-use Rattle.places.specs.Places.{on_free_field, fields_up_to, up_to_behind}
+use Rattle.places.specs.Places.{on_free, fields_up_to, up_to_behind}
 use Rattle.places.proofs.Ends.{Ends, field-ends}
 
 -- ---- the key of what was read is its place
 
-abbrev FieldKeyed : ℕ → FieldRead → Type 0
-FieldKeyed at (FieldRead.Is x q) = x.key ≡ at
-FieldKeyed at FieldRead.Wrong = Unit {0}
+abbrev FieldKeyed : ℕ → Read Field → Type 0
+FieldKeyed at (Some (x, q)) = x.key ≡ at
+FieldKeyed at None = Unit {0}
 
 field-keyed : (s : Text) (at : ℕ) → FieldKeyed at (field_at s at)
 unfolding field_at
 field-keyed s at = by (desc_at s at)
   where
-    by₂ : (d : FieldDesc) (c : CondRead) → FieldKeyed at (on_cond c FieldRead.Wrong λ cond q. FieldRead.Is (record { key = at; desc = d; cond = cond }) q)
-    by₂ d (CondRead.Is c q) = refl
-    by₂ d CondRead.Wrong = tt
+    by₂ : (d : FieldDesc) (c : Read (Option Condition)) → FieldKeyed at (on_read c None λ cond q. Some ((record { key = at; desc = d; cond = cond }), q))
+    by₂ d (Some (c, q)) = refl
+    by₂ d None = tt
 
-    by : (d : DescRead) → FieldKeyed at (on_desc d FieldRead.Wrong λ desc p.
-        on_cond (cond_at s p) FieldRead.Wrong λ cond q. FieldRead.Is (record { key = at; desc = desc; cond = cond }) q)
-    by (DescRead.Is d p) = by₂ d (cond_at s p)
-    by DescRead.Wrong = tt
+    by : (d : Read FieldDesc) → FieldKeyed at (on_read d None λ desc p.
+        on_read (cond_at s p) None λ cond q. Some ((record { key = at; desc = desc; cond = cond }), q))
+    by (Some (d, p)) = by₂ d (cond_at s p)
+    by None = tt
 
-pub field-key : (s : Text) (at : ℕ) (x : Field) (q : ℕ) → field_at s at ≡ FieldRead.Is x q → x.key ≡ at
+pub field-key : (s : Text) (at : ℕ) (x : Field) (q : ℕ) → field_at s at ≡ Some (x, q) → x.key ≡ at
 field-key s at x q e = subst (FieldKeyed at) e (field-keyed s at)
 
 -- ---- the fields that follow one another
@@ -68,7 +65,7 @@ follow-none s at xs p e =
     (subst (λ (q : ℕ). Follow s [] at [] q) (let z : at ≡ p = cc in z)
     (record { read = refl; apart = Apart.done (omega arith); inside = λ h. h }))
 
-follow-more : (s : Text) (at : ℕ) (x : Field) (q : ℕ) (ys xs : List Field) (p : ℕ) → field_at s at ≡ FieldRead.Is x q → Follow s ys q xs p
+follow-more : (s : Text) (at : ℕ) (x : Field) (q : ℕ) (ys xs : List Field) (p : ℕ) → field_at s at ≡ Some (x, q) → Follow s ys q xs p
     → Follow s (x ∷ ys) at (x ∷ xs) p
 follow-more s at x q ys xs p e f = record {
   read = ap (λ (l : List Field). x ∷ l) f.read;
@@ -93,28 +90,28 @@ fields-follow s (suc fuel) at xs p e free = by (key_at s at (text "field=")) (fi
         → Follow s (fields_up_to s fuel q) q ys t
 
     -- the fields from a first one on
-    from : ScreenedField → List Field
-    from g = on_free_field g [] λ x q. x ∷ fields_up_to s fuel q
+    from : Read (Option Field) → List Field
+    from g = on_free g [] λ x q. x ∷ fields_up_to s fuel q
 
-    rest : Ih → (x : Field) (q : ℕ) → field_at s at ≡ FieldRead.Is x q → (ys : Fields) → fields_at s fuel q ≡ ys
-        → with_field x ys ≡ fields_are xs p → Follow s (from (screen_field s (FieldRead.Is x q))) at xs p
+    rest : Ih → (x : Field) (q : ℕ) → field_at s at ≡ Some (x, q) → (ys : Fields) → fields_at s fuel q ≡ ys
+        → with_field x ys ≡ fields_are xs p → Follow s (from (screen_field s (Some (x, q)))) at xs p
     rest ih x q h (fields_are ys t) ey k =
         let each : x ∷ ys ≡ xs = cc in
         let none : (any_keyword s (field_names x) ≡ false) × (any_keyword s (fields_names ys) ≡ false) =
         keyword-neither s (field_names x) (fields_names ys) (ap (λ (l : List Field). any_keyword s (fields_names l)) each ∙ free) in
         subst (λ (l : List Field). Follow s l at xs p)
-        (sym (ap (λ (b : Bool). from (pick b (ScreenedField.Keyword q) (ScreenedField.Is x q))) none.0))
+        (sym (ap (λ (b : Bool). from (pick b (Some (None, q)) (Some (Some x, q)))) none.0))
         (subst (λ (l : List Field). Follow s (x ∷ fields_up_to s fuel q) at l p) each
         (subst (λ (u : ℕ). Follow s (x ∷ fields_up_to s fuel q) at (x ∷ ys) u) (let z : t ≡ p = cc in z)
         (follow-more s at x q (fields_up_to s fuel q) ys t h (ih q ys t ey none.1))))
     rest ih x q h no_fields ey k = absurd (let z : ◌≡◌ {A = ℕ} 0 1 = cc in omega arith)
 
-    by : (f : Found) (g : FieldRead) → Ih → field_at s at ≡ g
-        → on_found f (fields_are [] at) (λ a. on_field g no_fields λ x q. with_field x (fields_at s fuel q)) ≡ fields_are xs p
+    by : (f : Option ℕ) (g : Read Field) → Ih → field_at s at ≡ g
+        → on_found f (fields_are [] at) (λ a. on_read g no_fields λ x q. with_field x (fields_at s fuel q)) ≡ fields_are xs p
         → Follow s (on_found f [] λ a. from (screen_field s g)) at xs p
-    by Found.Nothing g ih eg k = follow-none s at xs p k
-    by (Found.At a) FieldRead.Wrong ih eg k = absurd (let z : ◌≡◌ {A = ℕ} 0 1 = cc in omega arith)
-    by (Found.At a) (FieldRead.Is x q) ih eg k = rest ih x q eg (fields_at s fuel q) refl k
+    by None g ih eg k = follow-none s at xs p k
+    by (Some a) None ih eg k = absurd (let z : ◌≡◌ {A = ℕ} 0 1 = cc in omega arith)
+    by (Some a) (Some (x, q)) ih eg k = rest ih x q eg (fields_at s fuel q) refl k
 
 pub behind-follow : (s : Text) (d : DeclDesc) (at : ℕ) (xs : List Field) (p : ℕ) → fields_behind s d at ≡ fields_are xs p
     → any_keyword s (fields_names xs) ≡ false → Follow s (up_to_behind s d at) at xs p

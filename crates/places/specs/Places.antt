@@ -1,21 +1,19 @@
 -- What the reader writes into the tables of a record: its declarations, its fields, and the fields' places, up to the first line that is wrong or
 -- has a keyword (document 02, Card 6), and what it answers. What the tables give back stands in the crate `tables`.
 -- Assumes nothing.
-use Rattle.std.specs.Prelude.{Bool, true, false, ◌||◌, List, [], ◌∷◌, ◌++◌, ◌≡◌, ℕ, zero, suc, ◌+◌, ◌*◌, ◌/◌, ltb, length}
+use Rattle.std.specs.Prelude.{Option, Some, None, Result, Ok, Err, Bool, true, false, not, ◌||◌, List, [], ◌∷◌, ◌++◌, ◌≡◌, ℕ, zero, suc, ◌+◌, ◌*◌, ◌/◌, ltb, length}
+use Rattle.definitions.specs.Record.{Read, key_at, on_found, on_read, on_fields, field_at, decl_at, fields_at, fields_behind, declarations_at, Fields, fields_are, no_fields, Declaration, Declarations, declarations_are, no_declarations}
+use Rattle.std.specs.Bool.{then_some}
 use Rattle.std.proofs.lemmas.List.Edits.{sets}
 use Rattle.definitions.specs.Bytes.{Text, text, pick}
-use Rattle.definitions.specs.Record.{key_at, on_found, on_decl, on_fields, field_at, decl_at, fields_at, fields_behind, declarations_at, Fields, fields_are, no_fields, Declaration, Declarations, declarations_are, no_declarations}
 use Rattle.definitions.specs.Refusals.{any_keyword, decl_names, fields_names, declarations_names, is_frame}
 use Rattle.definitions.specs.declared.Field.{Field}
 use Rattle.definitions.specs.declared.DeclDesc.{DeclDesc}
 use Rattle.definitions.specs.declared.Decl.{Decl}
-use Rattle.definitions.specs.declared.ScreenedField.{ScreenedField}
-use Rattle.definitions.specs.declared.ScreenedDecl.{ScreenedDecl}
+use Rattle.definitions.specs.declared.Refusal.{Refusal}
 use Rattle.keywords.specs.Screens.{screen_field, screen_decl}
 use Rattle.tables.specs.Words.{field_words, decl_words}
 use Rattle.tables.specs.Tables.{Tables, tables_of, declarations_from}
-use Rattle.places.specs.declared.FieldsRead.{FieldsRead}
-use Rattle.places.specs.declared.DeclsRead.{DeclsRead}
 
 -- In what follows `kept` says that a name before the place is a keyword: then nothing is written, and the form alone is read.
 
@@ -30,22 +28,26 @@ declarations_behind s fuel at = elim (ltb at (length s)) [ true ↦ declarations
 
 -- ---- the fields of a declaration
 
--- what follows a field whose names are free
-abbrev pub on_free_field : {A : Type 0} → ScreenedField → A → (Field → ℕ → A) → A
-on_free_field (ScreenedField.Is x p) other f = f x p
-on_free_field (ScreenedField.Keyword p) other f = other
-on_free_field ScreenedField.Wrong other f = other
+-- what follows where no name is a keyword
+abbrev pub on_free : {A B : Type 0} → Read (Option B) → A → (B → ℕ → A) → A
+on_free (Some (Some x, p)) other f = f x p
+on_free (Some (None, p)) other f = other
+on_free None other f = other
 
--- how many fields, after n, and the place behind them; that place alone, where a name is a keyword
-abbrev pub screen_fields : Text → Bool → ℕ → Fields → FieldsRead
-screen_fields s kept n (fields_are xs p) = pick (kept || any_keyword s (fields_names xs)) (FieldsRead.Keyword p) (FieldsRead.Is (n + length xs) p)
-screen_fields s kept n no_fields = FieldsRead.Wrong
+-- so many, and the place behind them; that place alone, where a keyword is met
+abbrev pub counted : Bool → ℕ → ℕ → Read (Option ℕ)
+counted met n p = Some (then_some (not met) n, p)
+
+-- how many fields, after n
+abbrev pub screen_fields : Text → Bool → ℕ → Fields → Read (Option ℕ)
+screen_fields s kept n (fields_are xs p) = counted (kept || any_keyword s (fields_names xs)) (n + length xs) p
+screen_fields s kept n no_fields = None
 
 -- the fields that follow one another, up to the first that is wrong or has a keyword
 unfoldable pub fields_up_to : Text → ℕ → ℕ → List Field
 fields_up_to s zero at = []
 fields_up_to s (suc fuel) at =
-    on_found (key_at s at (text "field=")) [] λ p. on_free_field (screen_field s (field_at s at)) [] λ x q. x ∷ fields_up_to s fuel q
+    on_found (key_at s at (text "field=")) [] λ p. on_free (screen_field s (field_at s at)) [] λ x q. x ∷ fields_up_to s fuel q
 
 -- the same, where there may be any
 abbrev pub framed_up_to : Text → Bool → ℕ → List Field
@@ -71,7 +73,8 @@ written true xs = []
 written false xs = xs
 
 -- how many, and the place behind them; the tables have the numbers of `xs`, and their places from `base` on
-pub record Filled (s : Text) (kept : Bool) (fs : Fields) (xs : List Field) (values fields : List ℕ) (base : ℕ) (r : FieldsRead) (v f : List ℕ) : Type 0 where
+pub record Filled (s : Text) (kept : Bool) (fs : Fields) (xs : List Field) (values fields : List ℕ) (base : ℕ)
+    (r : Read (Option ℕ)) (v f : List ℕ) : Type 0 where
   pub answer : r ≡ screen_fields s kept 0 fs
   pub numbers : v ≡ with_values values (written kept xs)
   pub places : f ≡ sets fields base (field_keys (written kept xs))
@@ -79,23 +82,17 @@ pub record Filled (s : Text) (kept : Bool) (fs : Fields) (xs : List Field) (valu
 -- ---- one declaration
 
 -- what follows a declaration whose own names are free
-abbrev pub on_free_decl : {A : Type 0} → ScreenedDecl → A → (Decl → ℕ → A) → A
-on_free_decl (ScreenedDecl.Is d p) other f = f d p
-on_free_decl (ScreenedDecl.Keyword p frame) other f = other
-on_free_decl ScreenedDecl.Wrong other f = other
+abbrev pub on_free_decl : {A : Type 0} → Read (Result Decl Bool) → A → (Decl → ℕ → A) → A
+on_free_decl (Some (Ok d, p)) other f = f d p
+on_free_decl (Some (Err frame, p)) other f = other
+on_free_decl None other f = other
 
--- what follows fields whose names are free
-abbrev pub on_free_fields : {A : Type 0} → FieldsRead → A → (ℕ → ℕ → A) → A
-on_free_fields (FieldsRead.Is n p) other f = f n p
-on_free_fields (FieldsRead.Keyword p) other f = other
-on_free_fields FieldsRead.Wrong other f = other
-
--- how many fields it has, and the place behind them; that place alone, where a name of it or of its fields is a keyword
-unfoldable pub decl_read : Text → Bool → ℕ → FieldsRead
+-- how many fields it has; where a name of it or of its fields is a keyword, only the place behind it
+unfoldable pub decl_read : Text → Bool → ℕ → Read (Option ℕ)
 decl_read s kept at =
-    on_decl (decl_at s at) FieldsRead.Wrong λ d p.
-    on_fields (fields_behind s d.desc p) FieldsRead.Wrong λ xs q.
-    pick (kept || any_keyword s (decl_names d ++ fields_names xs)) (FieldsRead.Keyword q) (FieldsRead.Is (length xs) q)
+    on_read (decl_at s at) None λ d p.
+    on_fields (fields_behind s d.desc p) None λ xs q.
+    counted (kept || any_keyword s (decl_names d ++ fields_names xs)) (length xs) q
 
 -- a row with the declaration of the index i, which has n fields
 abbrev pub with_row : List ℕ → ℕ → Decl → ℕ → List ℕ
@@ -112,7 +109,7 @@ with_fields t i xs = tables_of t.source t.rows (with_values t.values xs) (sets t
 unfoldable pub tables_with : Text → ℕ → ℕ → Tables → Tables
 tables_with s i at t =
     on_free_decl (screen_decl s (decl_at s at)) t λ d p.
-    on_free_fields (screen_fields s false 0 (fields_behind s d.desc p)) (with_fields t i (up_to_behind s d.desc p)) λ n q.
+    on_free (screen_fields s false 0 (fields_behind s d.desc p)) (with_fields t i (up_to_behind s d.desc p)) λ n q.
     with_decl (with_fields t i (up_to_behind s d.desc p)) i d n
 
 -- the tables, where something is written
@@ -121,16 +118,16 @@ filled_in true t u = t
 filled_in false t u = u
 
 -- the declaration at a place, with the index i
-pub record FilledOne (s : Text) (kept : Bool) (at i : ℕ) (rows values fields : List ℕ) (r : FieldsRead) (x y z : List ℕ) : Type 0 where
+pub record FilledOne (s : Text) (kept : Bool) (at i : ℕ) (rows values fields : List ℕ) (r : Read (Option ℕ)) (x y z : List ℕ) : Type 0 where
   pub answer : r ≡ decl_read s kept at
   pub tables : tables_of s x y z ≡ filled_in kept (tables_of s rows values fields) (tables_with s i at (tables_of s rows values fields))
 
 -- ---- the declarations of a record
 
--- how many declarations, after i, where no name is a keyword
-abbrev pub screen_decls : Text → Bool → ℕ → Declarations → DeclsRead
-screen_decls s kept i (declarations_are ds) = pick (kept || any_keyword s (declarations_names ds)) DeclsRead.Keyword (DeclsRead.Is (i + length ds))
-screen_decls s kept i no_declarations = DeclsRead.Wrong
+-- how many declarations, after i: a broken form is refused before a keyword
+abbrev pub screen_decls : Text → Bool → ℕ → Declarations → Result ℕ Refusal
+screen_decls s kept i (declarations_are ds) = pick (kept || any_keyword s (declarations_names ds)) (Err Refusal.Keyword) (Ok (i + length ds))
+screen_decls s kept i no_declarations = Err Refusal.RecordForm
 
 -- n declarations, as the tables give them back
 abbrev pub given : Tables → ℕ → List Declaration
@@ -140,10 +137,10 @@ given t n = declarations_from t.rows t.values t.fields 0 n
 unfoldable pub tables_from : Text → ℕ → ℕ → ℕ → Tables → Tables
 tables_from s zero i at t = t
 tables_from s (suc fuel) i at t =
-    on_free_fields (decl_read s false at) (tables_with s i at t) λ n q.
+    on_free (decl_read s false at) (tables_with s i at t) λ n q.
     elim (ltb q (length s)) [ true ↦ tables_from s fuel (i + 1) q (tables_with s i at t) | false ↦ tables_with s i at t ]
 
 -- the declarations from a place on to the record's end
-pub record Read (s : Text) (kept : Bool) (at : ℕ) (rows values fields : List ℕ) (r : DeclsRead) (x y z : List ℕ) : Type 0 where
+pub record FilledAll (s : Text) (kept : Bool) (at : ℕ) (rows values fields : List ℕ) (r : Result ℕ Refusal) (x y z : List ℕ) : Type 0 where
   pub answer : r ≡ screen_decls s kept 0 (declarations_at s (length s) at)
   pub tables : tables_of s x y z ≡ filled_in kept (tables_of s rows values fields) (tables_from s (length s) 0 at (tables_of s rows values fields))

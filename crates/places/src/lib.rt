@@ -6,21 +6,15 @@
 ghost use Rattle.std.specs.Prelude.{◌+◌, ◌≤◌, ◌<◌, ◌^◌, length};
 ghost use Rattle.definitions.specs.Bytes.{Text};
 ghost use Rattle.definitions.specs.Record.{fields_at};
-ghost use Rattle.places.specs.Places.{framed_fields, framed_up_to, fields_up_to, Filled, FilledOne, Read};
+ghost use Rattle.places.specs.Places.{framed_fields, framed_up_to, fields_up_to, Filled, FilledOne, FilledAll};
 
-use definitions::{Found, ScreenedDecl, ScreenedField};
+use definitions::{Read, Refusal};
+
+// The tables stay three parameters while they are filled: a struct with three `&mut` names three ghost names in each clause.
 
 // ---- the fields of a declaration
 
-// How many fields, and the place behind them; that place alone, where a name is a keyword.
-#[derive(Clone, Copy)]
-pub enum FieldsRead {
-    Is(usize, usize),
-    Keyword(usize),
-    Wrong,
-}
-
-// The fields from a place on, up to a line that is no field, with their places in `fields` from `base` on.
+// The fields from a place on, up to a line that is no field, with their places in `fields` from `base` on: how many, or that a name is a keyword.
 fn fill_fields(
     rec: &[u8],
     at: usize,
@@ -28,43 +22,29 @@ fn fill_fields(
     values: &mut [u64],
     fields: &mut [u16],
     base: usize,
-) -> FieldsRead
+) -> Read<Option<usize>>
     requires { (base + length rec.now < 2 ^ 64) × (length rec.now ≤ 16384) }
     ensures { let s : Text = rec.now in
         Filled s kept (fields_at s (length s) at) (fields_up_to s (length s) at) values.old fields.old base result
         values.new fields.new }
 {
     let mut p = at;
-    let mut n = 0;
     let mut met = kept;
-    while n < rec.len() {
-        let Found::At(_) = names::key_at(rec, p, b"field=") else {
-            if met {
-                return FieldsRead::Keyword(p);
-            }
-            return FieldsRead::Is(n, p);
-        };
-        match readers::field_at(rec, p) {
-            ScreenedField::Is(x, q) => {
-                if met {
-                    p = q;
-                    n += 1;
-                } else {
-                    tables::put_field(values, p, x);
-                    tables::put(fields, base + n, p);
-                    p = q;
-                    n += 1;
-                }
-            }
-            ScreenedField::Keyword(q) => {
-                met = true;
-                p = q;
-                n += 1;
-            }
-            ScreenedField::Wrong => return FieldsRead::Wrong,
+    for n in 0..rec.len() {
+        if names::key_at(rec, p, b"field=").is_none() {
+            return Some(((!met).then_some(n), p));
         }
+        let (field, q) = readers::field_at(rec, p)?;
+        match field {
+            Some(x) if !met => {
+                tables::put_field(values, p, x);
+                tables::put(fields, base + n, p);
+            }
+            _ => met = true,
+        }
+        p = q;
     }
-    FieldsRead::Wrong
+    None
 }
 
 // The same behind the lines of a declaration: only a packet and a struct have fields.
@@ -76,7 +56,7 @@ fn fill_behind(
     values: &mut [u64],
     fields: &mut [u16],
     base: usize,
-) -> FieldsRead
+) -> Read<Option<usize>>
     requires { (base + length rec.now < 2 ^ 64) × (length rec.now ≤ 16384) }
     ensures { let s : Text = rec.now in
         Filled s kept (framed_fields s frame at) (framed_up_to s frame at) values.old fields.old base result
@@ -85,10 +65,7 @@ fn fill_behind(
     if frame {
         return fill_fields(rec, at, kept, values, fields, base);
     }
-    if kept {
-        return FieldsRead::Keyword(at);
-    }
-    FieldsRead::Is(0, at)
+    Some(((!kept).then_some(0), at))
 }
 
 // ---- the declarations of a record
@@ -102,38 +79,27 @@ fn fill_decl(
     values: &mut [u64],
     fields: &mut [u16],
     i: usize,
-) -> FieldsRead
+) -> Read<Option<usize>>
     requires { (i ≤ 16384) × (length rec.now ≤ 16384) }
     ensures { FilledOne rec.now kept at i rows.old values.old fields.old result
         rows.new values.new fields.new }
 {
-    match readers::decl_at(rec, at) {
-        ScreenedDecl::Is(d, q) => {
-            let desc = d.desc;
-            match fill_behind(rec, tables::is_frame(desc), q, kept, values, fields, i * 64) {
-                FieldsRead::Is(n, t) => {
-                    tables::put_decl(rows, i, d, n);
-                    FieldsRead::Is(n, t)
-                }
-                FieldsRead::Keyword(t) => FieldsRead::Keyword(t),
-                FieldsRead::Wrong => FieldsRead::Wrong,
+    let (decl, q) = readers::decl_at(rec, at)?;
+    match decl {
+        Ok(d) => {
+            let frame = tables::is_frame(d.desc);
+            let (count, t) = fill_behind(rec, frame, q, kept, values, fields, i * 64)?;
+            if let Some(n) = count {
+                tables::put_decl(rows, i, d, n);
             }
+            Some((count, t))
         }
-        ScreenedDecl::Keyword(q, frame) => fill_behind(rec, frame, q, true, values, fields, i * 64),
-        ScreenedDecl::Wrong => FieldsRead::Wrong,
+        Err(frame) => fill_behind(rec, frame, q, true, values, fields, i * 64),
     }
 }
 
-// How many declarations, where no name is a keyword.
-#[derive(Clone, Copy)]
-pub enum DeclsRead {
-    Is(usize),
-    Keyword,
-    Wrong,
-}
-
-// The declarations from a place on to the end of the record; `kept` says that the target is a keyword. Where there are too many (refusal 3) it reads
-// on for the form.
+// The declarations from a place on to the end of the record, and how many; `kept` says that the target is a keyword. A broken form is refused before a
+// keyword, so the form is read on behind one, and where there are too many (refusal 3).
 pub fn fill(
     rec: &[u8],
     at: usize,
@@ -141,33 +107,25 @@ pub fn fill(
     rows: &mut [u64],
     values: &mut [u64],
     fields: &mut [u16],
-) -> DeclsRead
+) -> Result<usize, Refusal>
     requires { length rec.now ≤ 16384 }
-    ensures { Read rec.now kept at rows.old values.old fields.old result
+    ensures { FilledAll rec.now kept at rows.old values.old fields.old result
         rows.new values.new fields.new }
 {
     let mut p = at;
-    let mut i = 0;
     let mut met = kept;
-    while i < rec.len() {
-        match fill_decl(rec, p, met, rows, values, fields, i) {
-            FieldsRead::Is(_, t) => {
-                p = t;
-                i += 1;
-                if rec.len() <= p {
-                    return DeclsRead::Is(i);
-                }
-            }
-            FieldsRead::Keyword(t) => {
-                met = true;
-                p = t;
-                i += 1;
-                if rec.len() <= p {
-                    return DeclsRead::Keyword;
-                }
-            }
-            FieldsRead::Wrong => return DeclsRead::Wrong,
+    for i in 0..rec.len() {
+        let read = fill_decl(rec, p, met, rows, values, fields, i);
+        let (count, t) = read.ok_or(Refusal::RecordForm)?;
+        met = count.is_none();
+        p = t;
+        if rec.len() <= p {
+            return if met {
+                Err(Refusal::Keyword)
+            } else {
+                Ok(i + 1)
+            };
         }
     }
-    DeclsRead::Wrong
+    Err(Refusal::RecordForm)
 }

@@ -3,7 +3,7 @@
 use mathlib.Core.Bool.{Bool, true, false}
 use mathlib.Core.List.{List, [], ◌∷◌}
 use mathlib.Core.Path.{◌≡◌, refl, sym, ap, ◌∙◌}
-use Prim.Native.Nat.{ℕ, ◌+◌, ◌*◌, ◌-◌, ◌≤◌, ◌<◌, ◌^◌}
+use Prim.Native.Nat.{ℕ, ◌+◌, ◌-◌, ◌≤◌, ◌<◌, ◌^◌}
 use native.Mathlib.Omega.{arith}
 use lib.Dec.{eqb}
 use lib.ListN.{length, set, take, replicate, length-set, get_or-replicate, length-replicate}
@@ -20,8 +20,7 @@ use Rattle.stream.specs.Stream.{run_bits, width_of}
 use Rattle.stream.proofs.Steps.{run-bit, run-no}
 use Rattle.tables.specs.Tables.{Tables, tables_of, rows_of, fields_of}
 use Rattle.bit_fields.specs.declared.KindAt.{KindAt}
-use Rattle.conditions.specs.IfNames.{cond_names, names_in, Gathered}
-use Rattle.conditions.proofs.Agree.{gathered-names}
+use Rattle.conditions.specs.IfNames.{cond_names, Gathered}
 use Rattle.field_kinds.specs.KindOf.{kind_at}
 use Rattle.emits.specs.Target.{setting_at, rest_at, field_in, annotated_at, Fine}
 use Rattle.emits.specs.declared.EmitAt.{EmitAt}
@@ -123,9 +122,9 @@ module _ (s rows values fields : List ℕ) (i n : ℕ) (o : Options) where
     size_fits ef = read-fine s rows values fields i n j ef w.fine (omega (arith, w.small))
 
     module _ {f : Field} (ef : f ≡ field_in tables i n j) {b : Bool}
-        (eb : (values fields : List ℕ) (n : ℕ) (o : Options) → b ≡ is_bit (setting_at (tables_of s rows values fields) i n o) f) where
+        (eb : (n : ℕ) (o : Options) → b ≡ is_bit (setting_at tables i n o) f) where
       is : b ≡ is_bit c (field_in tables i n j)
-      is = eb values fields n o ∙ ap (is_bit c) ef
+      is = eb n o ∙ ap (is_bit c) ef
 
       taken : {d : Bool} → b ≡ d → plan_by tables i n o j d ≡ plan_at tables i n o j
       unfolding plan_at
@@ -149,8 +148,8 @@ module _ (s rows values fields : List ℕ) (i n : ℕ) (o : Options) where
         pub bits_fit : later + width < 2 ^ 64
         bits_fit = omega (arith, more, run-below c (rest j), sum-fine s rows values fields i n w.fine j (omega (arith, w.small)))
 
-        pub filled-bit : {m : ℕ} {conds : List ℕ} → Gathered (cond_names (fields_of tables i n)) m conds
-            → {kind : KindAt} → kind ≡ kind_at s (rows_of tables i) (names_in (take (2 * m) conds)) f.desc
+        pub filled-bit : {m : ℕ} {conds : List Part} → Gathered (cond_names (fields_of tables i n)) m conds
+            → {kind : KindAt} → kind ≡ kind_at s (rows_of tables i) (take m conds) f.desc
             → Filled (set plan j (PlanAt.Bit width later kind)) (later + width) j
         filled-bit {m} {conds} g {kind} ek = entry (same_bit wide behind is-kind ∙ taken hb) more
           where
@@ -159,5 +158,5 @@ module _ (s rows values fields : List ℕ) (i n : ℕ) (o : Options) where
 
             is-kind : kind ≡ kind_at s (rows_of tables i) (cond_names (fields_of tables i n)) (field_in tables i n j).desc
             is-kind =
-                ek ∙ ap (λ (names : List Part). kind_at s (rows_of tables i) names f.desc) (gathered-names g)
+                ek ∙ ap (λ (names : List Part). kind_at s (rows_of tables i) names f.desc) g.are
                 ∙ ap (λ (f : Field). kind_at s (rows_of tables i) (cond_names (fields_of tables i n)) f.desc) ef

@@ -1,5 +1,7 @@
 -- What the plan of a list of fields tells is the stream over the fields, and so the definitions' lowering.
 -- Assumes nothing.
+use Rattle.std.specs.Prelude.{Ok, Err, Option, Some, None}
+use Rattle.definitions.specs.Refusals.{Verdict}
 use mathlib.Core.Bool.{Bool, true, false, not}
 use mathlib.Core.List.{List, [], ◌∷◌, ◌++◌}
 use mathlib.Core.Path.{◌≡◌, refl, sym, ap, ◌∙◌}
@@ -12,9 +14,8 @@ use Rattle.definitions.specs.FieldParser.{Setting, kind_of, is_bit, on_boundary,
 use Rattle.definitions.specs.FieldParser.{parse_typedef_field, parse_payload_field_lite, parse_optional_field, parse_other, parse_unchecked}
 use Rattle.definitions.specs.FieldParser as parser
 use Rattle.definitions.specs.declared.FieldDesc.{FieldDesc}
-use Rattle.definitions.specs.declared.Cond.{Cond}
+use Rattle.definitions.specs.declared.Condition.{Condition}
 use Rattle.definitions.specs.declared.Refusal.{Refusal}
-use Rattle.definitions.specs.declared.Verdict.{Verdict}
 use Rattle.stream.specs.Stream.{Result, refuses, writes, ahead, rendered, State, fresh, width_of, run_bits}
 use Rattle.stream.specs.Stream.{flushing, emitting, closing, closed, opened, calm, stream}
 use Rattle.stream.proofs.Same.{streamed}
@@ -60,29 +61,29 @@ said-shifted : (c : Setting) (shift : ℕ) (a : Annotated) (later : List Annotat
 unfolding parse_unchecked
 said-shifted c shift a later = by a.field.cond
   where
-    by : (x : Cond) → said_by (elim x as (λ _. Emit) [
-      | Cond.None ↦ parse_other c shift a later a.field.desc
-      | Cond.Some id value ↦ parse_optional_field c id value a.field.desc
+    by : (x : Option Condition) → said_by (elim x as (λ _. Emit) [
+      | None ↦ parse_other c shift a later a.field.desc
+      | Some cond ↦ parse_optional_field c cond.id cond.value a.field.desc
     ])
-        ≡ on_shift shift (elim x as (λ _. Bool) [ Cond.None ↦ aligned_desc a.field.desc | Cond.Some id value ↦ false ])
+        ≡ on_shift shift (elim x as (λ _. Bool) [ None ↦ aligned_desc a.field.desc | Some cond ↦ false ])
         (said_by (elim x as (λ _. Emit) [
-          | Cond.None ↦ parse_other c 0 a later a.field.desc
-          | Cond.Some id value ↦ parse_optional_field c id value a.field.desc
+          | None ↦ parse_other c 0 a later a.field.desc
+          | Some cond ↦ parse_optional_field c cond.id cond.value a.field.desc
         ]))
-    by Cond.None = other-said c shift a later a.field.desc
-    by (Cond.Some id value) = anywhere shift _
+    by None = other-said c shift a later a.field.desc
+    by (Some cond) = anywhere shift _
 
 -- ---- a field, and then what follows
 
 abbrev step : Advance → (State → Told) → Told
 step x f = joined x.verdict x.lines (f x.after)
 
-passed : (t : Text) (next : Told) → result_of (joined Verdict.Pass t next) ≡ ahead t (result_of next)
+passed : (t : Text) (next : Told) → result_of (joined (Ok tt) t next) ≡ ahead t (result_of next)
 passed t next = by next.verdict
   where
     by : (v : Verdict) → result_by v (t ++ next.lines) ≡ ahead t (result_by v next.lines)
-    by Verdict.Pass = refl
-    by (Verdict.Refuse why) = refl
+    by (Ok tt) = refl
+    by (Err why) = refl
 
 module _ (f : State → Told) where
   step-said : (s : State) (e : Emit) → result_of (step (said_advance s (said_by e)) f) ≡ emitting e (result_of (f s))
@@ -99,8 +100,8 @@ module _ (f : State → Told) where
       emits = ap (λ (x : Said). result_of (step (said_advance (calm s) x) f)) (sym h) ∙ step-said (calm s) e
 
       by : (b : Bool) (bs : List Bit) → result_of (step (elim (flush_verdict b bs) as (λ _. Advance) [
-        | Verdict.Pass ↦ said_advance (calm s) (on_shift s.shift must said)
-        | Verdict.Refuse why ↦ record { verdict = Verdict.Refuse why; lines = []; after = s }
+        | (Ok tt) ↦ said_advance (calm s) (on_shift s.shift must said)
+        | Err why ↦ record { verdict = Err why; lines = []; after = s }
       ]) f) ≡ flushing b bs (emitting e (result_of (f (calm s))))
       by false bs = emits
       by true [] = emits
@@ -146,10 +147,10 @@ module _ (c : Setting) where
       where
         by : (b w : Bool) → result_of (step (elim b as (λ _. Advance) [
           | true ↦ elim w as (λ _. Advance) [
-            | true ↦ record { verdict = Verdict.Refuse Refusal.ScalarTooWide; lines = []; after = s }
-            | false ↦ record { verdict = Verdict.Pass; lines = closing c s a later; after = closed c s a }
+            | true ↦ record { verdict = Err Refusal.ScalarTooWide; lines = []; after = s }
+            | false ↦ record { verdict = (Ok tt); lines = closing c s a later; after = closed c s a }
           ]
-          | false ↦ record { verdict = Verdict.Pass; lines = []; after = opened c s a }
+          | false ↦ record { verdict = (Ok tt); lines = []; after = opened c s a }
         ]) (rest later))
             ≡ (elim b as (λ _. Result) [
               | true ↦ elim w as (λ _. Result) [

@@ -1,13 +1,13 @@
 -- What a field of a target comes to. One that is no bit field is decided as on an octet boundary; `Told` says what the lines of a list of such are.
 -- Assumes nothing.
-use Rattle.std.specs.Prelude.{Bool, true, false, List, [], ◌∷◌, ℕ, ◌+◌}
+use Rattle.std.specs.Prelude.{Bool, true, false, List, [], ◌∷◌, ℕ, ◌+◌, Some, None}
 use Rattle.definitions.specs.Bytes.{Text}
 use Rattle.definitions.specs.Sizes.{Annotated}
 use Rattle.definitions.specs.Blocks.{Kind}
 use Rattle.definitions.specs.FieldParser.{Setting, kind_of, is_bit, parse_unchecked, Emit, appends}
 use Rattle.definitions.specs.FieldParser as parser
 use Rattle.definitions.specs.declared.FieldDesc.{FieldDesc}
-use Rattle.definitions.specs.declared.Cond.{Cond}
+use Rattle.definitions.specs.declared.Condition.{Condition}
 use Rattle.definitions.specs.declared.Field.{Field}
 use Rattle.definitions.specs.declared.Refusal.{Refusal}
 use Rattle.stream.specs.Stream.{width_of, block_text}
@@ -49,7 +49,7 @@ aligned_desc (FieldDesc.Flag id) = false
 aligned_desc (FieldDesc.Typedef id type) = true
 
 abbrev pub aligned : Field → Bool
-aligned f = elim f.cond [ Cond.None ↦ aligned_desc f.desc | Cond.Some id value ↦ false ]
+aligned f = elim f.cond [ None ↦ aligned_desc f.desc | Some cond ↦ false ]
 
 unfoldable pub plan_of : Setting → Annotated → List Annotated → Planned
 plan_of c a later = elim (is_bit c a.field) [

@@ -1,13 +1,13 @@
 -- What the fields of a plan tell, one after the other: their lines and, where one is refused, why, and the lines of those before it. proofs/Tells has the
 -- law that this is the stream over the fields (crate stream).
 -- Assumes nothing.
-use Rattle.std.specs.Prelude.{Bool, true, false, not, ◌&&◌, List, [], ◌∷◌, ◌++◌, ℕ, ◌+◌, ◌/◌, ◌%◌, eqb, ltb}
+use Rattle.std.specs.Prelude.{Ok, Err, Bool, true, false, not, ◌&&◌, List, [], ◌∷◌, ◌++◌, ℕ, ◌+◌, ◌/◌, ◌%◌, eqb, ltb}
+use Rattle.definitions.specs.Refusals.{Verdict}
 use Rattle.definitions.specs.Bytes.{Text}
 use Rattle.definitions.specs.Blocks.{Kind, Bit, raws_behind}
 use Rattle.definitions.specs.FieldParser.{next_nr}
 use Rattle.definitions.specs.declared.Options.{Options}
 use Rattle.definitions.specs.declared.Refusal.{Refusal}
-use Rattle.definitions.specs.declared.Verdict.{Verdict}
 use Rattle.stream.specs.Stream.{Result, refuses, writes, State, check_text, chunk_text, calm, chunk_at}
 use Rattle.plans.specs.Planned.{Said, says, silent, stops, Planned, bit, other, bits_ahead}
 
@@ -27,9 +27,9 @@ module _ (o : Options) (s : State) (kind : Kind) (width later : ℕ) where
   unfoldable pub bit_advance : Advance
   bit_advance = elim (eqb ((s.shift + width) % 8) 0) [
     | true ↦ elim (ltb 64 (s.shift + width)) [
-      | true ↦ record { verdict = Verdict.Refuse Refusal.ScalarTooWide; lines = []; after = s }
+      | true ↦ record { verdict = Err Refusal.ScalarTooWide; lines = []; after = s }
       | false ↦ record {
-        verdict = Verdict.Pass;
+        verdict = (Ok tt);
         lines = check_text s.pending ((s.shift + width + later) / 8) ++ chunk_text o (chunk_at s grown_bits);
         after = record {
           shift = 0;
@@ -41,7 +41,7 @@ module _ (o : Options) (s : State) (kind : Kind) (width later : ℕ) where
       }
     ]
     | false ↦ record {
-      verdict = Verdict.Pass;
+      verdict = (Ok tt);
       lines = [];
       after = record { shift = s.shift + width; chunk = grown_bits; chunk_nr = s.chunk_nr; raw_nr = s.raw_nr; pending = s.pending };
     }
@@ -49,24 +49,24 @@ module _ (o : Options) (s : State) (kind : Kind) (width later : ℕ) where
 
 -- 10: lines are pending, and a chunk is open
 abbrev pub flush_verdict : Bool → List Bit → Verdict
-flush_verdict false bs = Verdict.Pass
-flush_verdict true [] = Verdict.Pass
-flush_verdict true (b ∷ bs) = Verdict.Refuse Refusal.OpenChunk
+flush_verdict false bs = (Ok tt)
+flush_verdict true [] = (Ok tt)
+flush_verdict true (b ∷ bs) = Err Refusal.OpenChunk
 
 -- 11: inside an open chunk, of so many bits
 unfoldable pub on_shift : ℕ → Bool → Said → Said
 on_shift shift must said = elim (must && not (eqb shift 0)) [ true ↦ stops Refusal.OctetBoundary | false ↦ said ]
 
 abbrev pub said_advance : State → Said → Advance
-said_advance s (says t) = record { verdict = Verdict.Pass; lines = t; after = s }
-said_advance s silent = record { verdict = Verdict.Pass; lines = []; after = s }
-said_advance s (stops why) = record { verdict = Verdict.Refuse why; lines = []; after = s }
+said_advance s (says t) = record { verdict = (Ok tt); lines = t; after = s }
+said_advance s silent = record { verdict = (Ok tt); lines = []; after = s }
+said_advance s (stops why) = record { verdict = Err why; lines = []; after = s }
 
 -- it first flushes what is pending
 unfoldable pub other_advance : State → Bool → Said → Advance
 other_advance s must said = elim (flush_verdict s.pending s.chunk) [
-  | Verdict.Pass ↦ said_advance (calm s) (on_shift s.shift must said)
-  | Verdict.Refuse why ↦ record { verdict = Verdict.Refuse why; lines = []; after = s }
+  | (Ok tt) ↦ said_advance (calm s) (on_shift s.shift must said)
+  | Err why ↦ record { verdict = Err why; lines = []; after = s }
 ]
 
 -- with the bits of the bit fields behind it
@@ -82,8 +82,8 @@ pub record Told : Type 0 where
 
 -- a field, and then what follows; a refusal tells no more
 abbrev pub joined : Verdict → Text → Told → Told
-joined Verdict.Pass t next = record { verdict = next.verdict; lines = t ++ next.lines }
-joined (Verdict.Refuse why) t next = record { verdict = Verdict.Refuse why; lines = t }
+joined (Ok tt) t next = record { verdict = next.verdict; lines = t ++ next.lines }
+joined (Err why) t next = record { verdict = Err why; lines = t }
 
 unfoldable pub tell : Options → State → List Planned → Told
 tell o s [] = record { verdict = flush_verdict s.pending s.chunk; lines = [] }
@@ -93,8 +93,8 @@ tell o s (p ∷ later) =
 
 -- as the stream's
 abbrev pub result_by : Verdict → Text → Result
-result_by Verdict.Pass t = writes t
-result_by (Verdict.Refuse why) t = refuses why
+result_by (Ok tt) t = writes t
+result_by (Err why) t = refuses why
 
 abbrev pub result_of : Told → Result
 result_of r = result_by r.verdict r.lines

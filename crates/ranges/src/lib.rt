@@ -8,26 +8,20 @@ ghost use Rattle.definitions.specs.Refusals.{too_many, outside, bad_width, bad_c
 ghost use Rattle.tables.specs.Tables.{field_here, fields_from, count_here, declaration_in, declarations_from};
 ghost use Rattle.ranges.specs.Ranges.{bare, bad_field, bad_numbers};
 
-use definitions::{DeclDesc, FieldDesc, MaybeNumber, Modifier};
+use definitions::{DeclDesc, FieldDesc, Modifier};
+use tables::{KIND_FLAG, KIND_SCALAR, KIND_SIZE, KIND_TYPEDEF, Tables};
 
 // ---- 3: more than 32 declarations, or one with more than 64 fields
+
+const MOST_DECLARATIONS: usize = 32;
+
+const MOST_FIELDS: usize = 64;
 
 // More than 32 declarations, or one with more than 64 fields.
 pub fn too_many(rows: &[u64], n: usize) -> bool
     ensures { result ≡ too_many (bare rows.now n) }
 {
-    if 32 < n {
-        return true;
-    }
-    let mut i = 0;
-    while i < n {
-        let m = tables::count_here(rows, i);
-        if 64 < m {
-            return true;
-        }
-        i += 1;
-    }
-    false
+    MOST_DECLARATIONS < n || (0..n).any(|i| MOST_FIELDS < tables::count_here(rows, i))
 }
 
 // ---- 6: a number outside its range
@@ -36,44 +30,36 @@ pub fn too_many(rows: &[u64], n: usize) -> bool
 fn is_outside(low: u64, high: u64, n: u64) -> bool
     ensures { result ≡ outside low high n }
 {
-    if n < low {
-        return true;
-    }
-    high < n
+    n < low || high < n
 }
 
-// A number that may be absent.
-fn bad_maybe(low: u64, high: u64, n: MaybeNumber) -> bool
-    ensures { result ≡ bad_maybe (outside low high) n }
+fn bad_width(n: u64) -> bool
+    ensures { result ≡ bad_width n }
 {
-    match n {
-        MaybeNumber::None => false,
-        MaybeNumber::Some(v) => is_outside(low, high, v),
-    }
+    is_outside(1, 64, n)
 }
 
-// A mod number.
+// A count, a padding or a mod number.
+fn bad_count(n: u64) -> bool
+    ensures { result ≡ bad_count n }
+{
+    is_outside(0, 65535, n)
+}
+
 fn bad_modifier(m: Modifier) -> bool
     ensures { result ≡ bad_modifier m }
 {
     match m {
         Modifier::None => false,
-        Modifier::Plus(n) => is_outside(0, 65535, n),
-        Modifier::Minus(n) => is_outside(0, 65535, n),
+        Modifier::Plus(n) | Modifier::Minus(n) => bad_count(n),
     }
 }
 
 // The width, mod and count of an array.
-fn bad_array(width: MaybeNumber, size_modifier: Modifier, size: MaybeNumber) -> bool
+fn bad_array(width: Option<u64>, size_modifier: Modifier, size: Option<u64>) -> bool
     ensures { result ≡ bad_maybe bad_width width || bad_modifier size_modifier || bad_maybe bad_count size }
 {
-    if bad_maybe(1, 64, width) {
-        return true;
-    }
-    if bad_modifier(size_modifier) {
-        return true;
-    }
-    bad_maybe(0, 65535, size)
+    width.is_some_and(bad_width) || bad_modifier(size_modifier) || size.is_some_and(bad_count)
 }
 
 // A number of a field.
@@ -81,48 +67,34 @@ fn bad_number(desc: FieldDesc) -> bool
     ensures { result ≡ bad_number desc }
 {
     match desc {
-        FieldDesc::Checksum { field_id: _ } => false,
-        FieldDesc::Padding { size } => is_outside(0, 65535, size),
-        FieldDesc::Size { field_id: _, width } => is_outside(1, 64, width),
-        FieldDesc::Count { field_id: _, width } => is_outside(1, 64, width),
-        FieldDesc::ElementSize { field_id: _, width } => is_outside(1, 64, width),
-        FieldDesc::Body => false,
+        FieldDesc::Padding { size } => bad_count(size),
+        FieldDesc::Size { width, .. }
+        | FieldDesc::Count { width, .. }
+        | FieldDesc::ElementSize { width, .. }
+        | FieldDesc::FixedScalar { width, .. }
+        | FieldDesc::Reserved { width }
+        | FieldDesc::Scalar { width, .. } => bad_width(width),
         FieldDesc::Payload { size_modifier } => bad_modifier(size_modifier),
-        FieldDesc::FixedScalar { width, value: _ } => is_outside(1, 64, width),
-        FieldDesc::FixedEnum {
-            enum_id: _,
-            tag_id: _,
-        } => false,
-        FieldDesc::Reserved { width } => is_outside(1, 64, width),
         FieldDesc::Array {
-            id: _,
             width,
-            type_id: _,
             size_modifier,
             size,
+            ..
         } => bad_array(width, size_modifier, size),
-        FieldDesc::Scalar { id: _, width } => is_outside(1, 64, width),
-        FieldDesc::Flag { id: _ } => false,
-        FieldDesc::Typedef { id: _, type_id: _ } => false,
+        _ => false,
     }
 }
 
-// The field whose place is `at`. The kinds 3 to 8 have a width, 9 to 11 no number; of those no more is read.
+// The field whose place is `at`. The table has numbers (fixed memory), so the kind is matched as one: a size up to a scalar has a width, a flag up to a
+// typedef no number, and of those no more is read.
 fn bad_here(values: &[u64], at: usize) -> bool
     ensures { result ≡ bad_field (field_here values.now at) }
 {
-    let kind = tables::kind_here(values, at);
-    if 3 <= kind {
-        if kind <= 8 {
-            return is_outside(1, 64, tables::number_here(values, at, 4));
-        }
-        if kind <= 11 {
-            return false;
-        }
+    match tables::kind_here(values, at) {
+        KIND_SIZE..=KIND_SCALAR => bad_width(tables::number_here(values, at, 4)),
+        KIND_FLAG..=KIND_TYPEDEF => false,
+        _ => bad_number(tables::field_here(values, at).desc),
     }
-    let f = tables::field_here(values, at);
-    let desc = f.desc;
-    bad_number(desc)
 }
 
 // The width of a declaration.
@@ -130,60 +102,34 @@ fn bad_decl(desc: DeclDesc) -> bool
     ensures { result ≡ bad_decl desc }
 {
     match desc {
-        DeclDesc::Checksum { width } => is_outside(1, 64, width),
-        DeclDesc::CustomField { width } => bad_maybe(1, 4096, width),
-        DeclDesc::Enum {
-            width,
-            open: _,
-            complete: _,
-        } => is_outside(1, 64, width),
-        DeclDesc::Packet { parent_id: _ } => false,
-        DeclDesc::Struct { parent_id: _ } => false,
+        DeclDesc::Checksum { width } | DeclDesc::Enum { width, .. } => bad_width(width),
+        DeclDesc::CustomField { width } => width.is_some_and(|w| is_outside(1, 4096, w)),
+        _ => false,
     }
 }
 
 // A number of n fields, whose places the table has from `base` on.
-fn bad_fields(values: &[u64], fields: &[u16], base: usize, n: usize) -> bool
+fn bad_fields(t: &Tables, base: usize, n: usize) -> bool
     requires { base + n ≤ 4096 }
-    ensures { result ≡ any bad_field (fields_from values.now fields.now base n) }
+    ensures { result ≡ any bad_field (fields_from t.now.values t.now.fields base n) }
 {
-    let mut k = 0;
-    while k < n {
-        let at = tables::get(fields, base + k);
-        if bad_here(values, at) {
-            return true;
-        }
-        k += 1;
-    }
-    false
+    (base..base + n).any(|k| bad_here(t.values, tables::get(t.fields, k)))
 }
 
 // A number of the declaration with the index i, or of its fields.
-fn bad_numbers(rows: &[u64], values: &[u64], fields: &[u16], i: usize) -> bool
+fn bad_numbers(t: &Tables, i: usize) -> bool
     requires i_bound { i ≤ 32 }
-    requires i_bound_2 { count_here rows.now i ≤ 64 }
-    ensures { result ≡ bad_numbers (declaration_in rows.now values.now fields.now i) }
+    requires i_bound_2 { count_here t.now.rows i ≤ 64 }
+    ensures { result ≡ bad_numbers (declaration_in t.now.rows t.now.values t.now.fields i) }
 {
-    let d = tables::decl_here(rows, i);
-    let desc = d.desc;
-    if bad_decl(desc) {
-        return true;
-    }
-    let n = tables::count_here(rows, i);
-    bad_fields(values, fields, i * 64, n)
+    bad_decl(tables::decl_here(t.rows, i).desc)
+        || bad_fields(t, i * 64, tables::count_here(t.rows, i))
 }
 
 // A number of the first n declarations, where 3 is not met.
-pub fn out_of_range(rows: &[u64], values: &[u64], fields: &[u16], n: usize) -> bool
-    requires { too_many (bare rows.now n) ≡ false }
-    ensures { result ≡ out_of_range (declarations_from rows.now values.now fields.now 0 n) }
+pub fn out_of_range(t: &Tables, n: usize) -> bool
+    requires { too_many (bare t.now.rows n) ≡ false }
+    ensures { result ≡ out_of_range (declarations_from t.now.rows t.now.values t.now.fields 0 n) }
 {
-    let mut i = 0;
-    while i < n {
-        if bad_numbers(rows, values, fields, i) {
-            return true;
-        }
-        i += 1;
-    }
-    false
+    (0..n).any(|i| bad_numbers(t, i))
 }

@@ -1,2 +1,2 @@
-pub mod Parents
-pub mod Screens
+pub mod Chain
+pub mod Heads

@@ -1,33 +1,17 @@
--- Pieces of the definitions that the contracts of this crate name (document 01, 'The record'): a declaration with a parent, by its kind, and the
--- rest of `head_at` behind its `endian` line.
+-- A line of two words, which stands in the head, and the rest of `head_at` behind its `endian` line.
 -- Assumes nothing.
-use Rattle.std.specs.Prelude.{ℕ}
-use Rattle.definitions.specs.Bytes.{Text, text}
-use Rattle.definitions.specs.Record.{name_line, on_name, on_arrays, optional_at, head_is}
-use Rattle.definitions.specs.declared.Arrays.{Arrays}
-use Rattle.definitions.specs.declared.DeclDesc.{DeclDesc}
+use Rattle.std.specs.Prelude.{Some, None, ℕ}
+use Rattle.definitions.specs.Record.{Read, key_at, name_line, on_found, on_read, on_arrays, optional_at, head_is}
 use Rattle.definitions.specs.declared.EndiannessValue.{EndiannessValue}
-use Rattle.definitions.specs.declared.HeadRead.{HeadRead}
-use Rattle.definitions.specs.declared.MaybePart.{MaybePart}
-use Rattle.definitions.specs.declared.ScreenedName.{ScreenedName}
-use Rattle.definitions.specs.declared.ScreenedHead.{ScreenedHead}
-use Rattle.definitions.specs.declared.OptionalRead.{OptionalRead}
-use Rattle.readers.specs.declared.Parented.{Parented}
+use Rattle.definitions.specs.declared.Head.{Head}
+use Rattle.definitions.specs.Bytes.{Text, text}
 
-abbrev pub parented : Parented → MaybePart → DeclDesc
-parented Parented.Packet = DeclDesc.Packet
-parented Parented.Struct = DeclDesc.Struct
+abbrev pub choice : {A : Type 0} → Text → ℕ → Text × A → Text × A → Read A
+choice s at first other =
+    on_found (key_at s at first.0) (on_found (key_at s at other.0) None λ p. Some (other.1, p)) λ p. Some (first.1, p)
 
-abbrev pub target_at : Text → ℕ → EndiannessValue → HeadRead
+abbrev pub target_at : Text → ℕ → EndiannessValue → Read Head
 target_at s at endianness =
-    on_name (name_line s at (text "target=")) HeadRead.Wrong λ target q.
-    on_arrays s q HeadRead.Wrong λ arrays r.
+    on_read (name_line s at (text "target=")) None λ target q.
+    on_arrays s q None λ arrays r.
     head_is endianness target arrays (optional_at s r)
-
--- a head whose target is a name, or a keyword
-abbrev pub head_of : EndiannessValue → Arrays → ScreenedName → OptionalRead → ScreenedHead
-head_of endianness arrays (ScreenedName.Free target) t =
-    ScreenedHead.Is
-    (record { options = record { endianness = endianness; arrays = arrays; trailing = t.trailing; raw = t.raw; products = t.products }; target = target })
-    t.next
-head_of endianness arrays ScreenedName.Keyword t = ScreenedHead.Keyword t.next

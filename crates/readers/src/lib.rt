@@ -1,363 +1,303 @@
-// A field, a declaration and the head, as they stand at a place of the record (document 01, 'The record'; the head's lines `trailing`, `raw` and `products`:
-// document 02, Cards 3, 7 and 8), or that a name in them is a keyword of C++ (document 02, Card 6).
+// A field, a declaration and the head, as they stand at a place of the record, or that a name in them is a keyword of C++.
 #![tactic(auto)]
 
-ghost use Rattle.std.specs.Prelude.{◌≡◌};
-ghost use Rattle.definitions.specs.Record.{cond_at, field_at, parented_at, enum_at, checksum_decl_at, custom_at, decl_at, trailing_at, raw_at, products_at, optional_at, head_at};
+ghost use Rattle.std.specs.Prelude.{◌≡◌, Option, true};
+ghost use Rattle.definitions.specs.Record.{cond_at, field_at, parented_at, enum_at, checksum_decl_at, custom_at, decl_at, word_line, trailing_at, raw_at, products_at, optional_at, head_at};
+ghost use Rattle.definitions.specs.Refusals.{is_frame};
+ghost use Rattle.definitions.specs.Sizes.{parent_id as parent_of};
+ghost use Rattle.definitions.specs.declared.Part.{Part as P};
+ghost use Rattle.definitions.specs.declared.DeclDesc.{DeclDesc as D};
 ghost use Rattle.keywords.specs.Screens.{screen_cond, screen_field, screen_decl, screen_head};
-ghost use Rattle.readers.specs.Heads.{parented, target_at, head_of};
+ghost use Rattle.readers.specs.Heads.{choice, target_at};
 
 use definitions::{
-    Arrays, BitRead, Cond, Decl, DeclDesc, EndiannessValue, Field, Found, Head, MaybeNumberRead,
-    MaybePart, MaybeSize, MaybeSizeRead, NumberRead, OptionalRead, Options, Products, ProductsRead,
-    Raw, RawRead, ScreenedCond, ScreenedDecl, ScreenedDesc, ScreenedField, ScreenedHead,
-    ScreenedName, ScreenedNameRead, ScreenedPart, ScreenedPartRead, Trailing, TrailingRead,
+    Arrays, Condition, Decl, DeclDesc, EndiannessValue, Field, Head, OptionalRead, Options, Part,
+    Products, Raw, Read, Trailing,
 };
 
 // `if=-`, or `if=NAME` and `is=NUMBER`.
-fn cond_at(rec: &[u8], at: usize) -> ScreenedCond
+#[tactic(auto, unfolding(definitions::specs::Record::cond_at, definitions::specs::Refusals::any_keyword))]
+fn cond_at(rec: &[u8], at: usize) -> Read<Option<Option<Condition>>>
     ensures { result ≡ screen_cond rec.now (cond_at rec.now at) }
 {
-    let ScreenedPartRead::Is(name, p) = keys::maybe_name_line(rec, at, b"if=") else {
-        return ScreenedCond::Wrong;
-    };
-    match name {
-        ScreenedPart::None => ScreenedCond::Is(Cond::None, p),
-        ScreenedPart::Free(id) => {
-            let NumberRead::Is(value, q) = keys::number_line(rec, p, b"is=") else {
-                return ScreenedCond::Wrong;
-            };
-            ScreenedCond::Is(Cond::Some { id, value }, q)
-        }
-        ScreenedPart::Keyword => {
-            let NumberRead::Is(_, q) = keys::number_line(rec, p, b"is=") else {
-                return ScreenedCond::Wrong;
-            };
-            ScreenedCond::Keyword(q)
-        }
+    let (name, p) = keys::maybe_name_line(rec, at, b"if=")?;
+    if matches!(name, Some(None)) {
+        return Some((Some(None), p));
     }
+    let (value, q) = keys::number_line(rec, p, b"is=")?;
+    let cond = name.flatten().map(|id| Some(Condition { id, value }));
+    Some((cond, q))
 }
 
 // One field, and the place behind it.
-pub fn field_at(rec: &[u8], at: usize) -> ScreenedField
+pub fn field_at(rec: &[u8], at: usize) -> Read<Option<Field>>
     ensures { result ≡ screen_field rec.now (field_at rec.now at) }
 {
-    match kinds::desc_at(rec, at) {
-        ScreenedDesc::Is(desc, p) => match cond_at(rec, p) {
-            ScreenedCond::Is(cond, q) => ScreenedField::Is(
-                Field {
-                    key: at,
-                    desc,
-                    cond,
-                },
-                q,
-            ),
-            ScreenedCond::Keyword(q) => ScreenedField::Keyword(q),
-            ScreenedCond::Wrong => ScreenedField::Wrong,
-        },
-        ScreenedDesc::Keyword(p) => match cond_at(rec, p) {
-            ScreenedCond::Is(_, q) => ScreenedField::Keyword(q),
-            ScreenedCond::Keyword(q) => ScreenedField::Keyword(q),
-            ScreenedCond::Wrong => ScreenedField::Wrong,
-        },
-        ScreenedDesc::Wrong => ScreenedField::Wrong,
-    }
+    let (desc, p) = kinds::desc_at(rec, at)?;
+    let (cond, q) = cond_at(rec, p)?;
+    let field = desc.zip(cond).map(|(desc, cond)| Field {
+        key: at,
+        desc,
+        cond,
+    });
+    Some((field, q))
 }
 
-// The declarations that can have a parent.
-#[derive(Clone, Copy)]
-enum Parented {
-    Packet,
-    Struct,
-}
-
-// A packet or a struct of this parent.
-fn parented_of(parent_id: MaybePart, kind: Parented) -> DeclDesc
-    ensures { result ≡ parented kind parent_id }
+// `name`, `parent` and `bits` of a declaration that can have a parent, whose `decl` line stands at `at` and ends at `p`.
+#[tactic(auto, unfolding(definitions::specs::Refusals::any_keyword))]
+fn parented_at<F: FnOnce(Option<Part>) -> DeclDesc>(
+    rec: &[u8],
+    at: usize,
+    p: usize,
+    make: F,
+) -> Read<Result<Decl, bool>>
+    requires { (parent : Option P) → F.pre make parent }
+    ensures { (g : Option P → D) → ((parent : Option P) → (is_frame (g parent) ≡ true) × (parent_of (g parent) ≡ parent))
+        → ((parent : Option P) (d : D) → F.post make parent d → d ≡ g parent)
+        → result ≡ screen_decl rec.now (parented_at g rec.now at p) }
 {
-    match kind {
-        Parented::Packet => DeclDesc::Packet { parent_id },
-        Parented::Struct => DeclDesc::Struct { parent_id },
-    }
-}
-
-// `name`, `parent` and `bits` of a packet or a struct, whose `decl` line stands at `at` and ends at `p`.
-fn parented_at(rec: &[u8], at: usize, p: usize, kind: Parented) -> ScreenedDecl
-    ensures { result ≡ screen_decl rec.now (parented_at (parented kind) rec.now at p) }
-{
-    let ScreenedNameRead::Is(name, q) = keys::name_line(rec, p, b"name=") else {
-        return ScreenedDecl::Wrong;
+    let (name, q) = keys::name_line(rec, p, b"name=")?;
+    let (parent, t) = keys::maybe_name_line(rec, q, b"parent=")?;
+    let (bits, u) = keys::bits_line(rec, t)?;
+    let (Some(id), Some(parent_id)) = (name, parent) else {
+        return Some((Err(true), u));
     };
-    let ScreenedPartRead::Is(parent, t) = keys::maybe_name_line(rec, q, b"parent=") else {
-        return ScreenedDecl::Wrong;
-    };
-    let MaybeSizeRead::Is(bits, u) = keys::bits_line(rec, t) else {
-        return ScreenedDecl::Wrong;
-    };
-    let ScreenedName::Free(id) = name else {
-        return ScreenedDecl::Keyword(u, true);
-    };
-    match parent {
-        ScreenedPart::None => {
-            let desc = parented_of(MaybePart::None, kind);
-            ScreenedDecl::Is(
-                Decl {
-                    key: at,
-                    id,
-                    bits,
-                    desc,
-                },
-                u,
-            )
-        }
-        ScreenedPart::Free(parent_id) => {
-            let desc = parented_of(MaybePart::Some(parent_id), kind);
-            ScreenedDecl::Is(
-                Decl {
-                    key: at,
-                    id,
-                    bits,
-                    desc,
-                },
-                u,
-            )
-        }
-        ScreenedPart::Keyword => ScreenedDecl::Keyword(u, true),
-    }
+    let desc = make(parent_id);
+    Some((
+        Ok(Decl {
+            key: at,
+            id,
+            bits,
+            desc,
+        }),
+        u,
+    ))
 }
 
 // `name`, `width`, `open` and `complete` of an enum.
-fn enum_at(rec: &[u8], at: usize, p: usize) -> ScreenedDecl
+#[tactic(auto, unfolding(definitions::specs::Record::enum_at, definitions::specs::Refusals::any_keyword))]
+fn enum_at(rec: &[u8], at: usize, p: usize) -> Read<Result<Decl, bool>>
     ensures { result ≡ screen_decl rec.now (enum_at rec.now at p) }
 {
-    let ScreenedNameRead::Is(name, q) = keys::name_line(rec, p, b"name=") else {
-        return ScreenedDecl::Wrong;
-    };
-    let NumberRead::Is(width, t) = keys::number_line(rec, q, b"width=") else {
-        return ScreenedDecl::Wrong;
-    };
-    let BitRead::Is(open, u) = keys::bit_line(rec, t, b"open=") else {
-        return ScreenedDecl::Wrong;
-    };
-    let BitRead::Is(complete, v) = keys::bit_line(rec, u, b"complete=") else {
-        return ScreenedDecl::Wrong;
-    };
-    let ScreenedName::Free(id) = name else {
-        return ScreenedDecl::Keyword(v, false);
+    let (name, q) = keys::name_line(rec, p, b"name=")?;
+    let (width, t) = keys::number_line(rec, q, b"width=")?;
+    let (open, u) = keys::bit_line(rec, t, b"open=")?;
+    let (complete, v) = keys::bit_line(rec, u, b"complete=")?;
+    let Some(id) = name else {
+        return Some((Err(false), v));
     };
     let desc = DeclDesc::Enum {
         width,
         open,
         complete,
     };
-    ScreenedDecl::Is(
-        Decl {
+    Some((
+        Ok(Decl {
             key: at,
             id,
-            bits: MaybeSize::None,
+            bits: None,
             desc,
-        },
+        }),
         v,
-    )
+    ))
 }
 
 // `name` and `width` of a checksum.
-fn checksum_decl_at(rec: &[u8], at: usize, p: usize) -> ScreenedDecl
+#[tactic(auto, unfolding(definitions::specs::Record::checksum_decl_at, definitions::specs::Refusals::any_keyword))]
+fn checksum_decl_at(rec: &[u8], at: usize, p: usize) -> Read<Result<Decl, bool>>
     ensures { result ≡ screen_decl rec.now (checksum_decl_at rec.now at p) }
 {
-    let ScreenedNameRead::Is(name, q) = keys::name_line(rec, p, b"name=") else {
-        return ScreenedDecl::Wrong;
-    };
-    let NumberRead::Is(width, t) = keys::number_line(rec, q, b"width=") else {
-        return ScreenedDecl::Wrong;
-    };
-    let ScreenedName::Free(id) = name else {
-        return ScreenedDecl::Keyword(t, false);
+    let (name, q) = keys::name_line(rec, p, b"name=")?;
+    let (width, t) = keys::number_line(rec, q, b"width=")?;
+    let Some(id) = name else {
+        return Some((Err(false), t));
     };
     let desc = DeclDesc::Checksum { width };
-    ScreenedDecl::Is(
-        Decl {
+    Some((
+        Ok(Decl {
             key: at,
             id,
-            bits: MaybeSize::None,
+            bits: None,
             desc,
-        },
+        }),
         t,
-    )
+    ))
 }
 
 // `name` and `width` (or `-`) of a custom.
-fn custom_at(rec: &[u8], at: usize, p: usize) -> ScreenedDecl
+#[tactic(auto, unfolding(definitions::specs::Record::custom_at, definitions::specs::Refusals::any_keyword))]
+fn custom_at(rec: &[u8], at: usize, p: usize) -> Read<Result<Decl, bool>>
     ensures { result ≡ screen_decl rec.now (custom_at rec.now at p) }
 {
-    let ScreenedNameRead::Is(name, q) = keys::name_line(rec, p, b"name=") else {
-        return ScreenedDecl::Wrong;
-    };
-    let MaybeNumberRead::Is(width, t) = keys::maybe_number_line(rec, q, b"width=") else {
-        return ScreenedDecl::Wrong;
-    };
-    let ScreenedName::Free(id) = name else {
-        return ScreenedDecl::Keyword(t, false);
+    let (name, q) = keys::name_line(rec, p, b"name=")?;
+    let (width, t) = keys::maybe_number_line(rec, q, b"width=")?;
+    let Some(id) = name else {
+        return Some((Err(false), t));
     };
     let desc = DeclDesc::CustomField { width };
-    ScreenedDecl::Is(
-        Decl {
+    Some((
+        Ok(Decl {
             key: at,
             id,
-            bits: MaybeSize::None,
+            bits: None,
             desc,
-        },
+        }),
         t,
-    )
+    ))
 }
 
 // The lines of a declaration before its fields.
-pub fn decl_at(rec: &[u8], at: usize) -> ScreenedDecl
+pub fn decl_at(rec: &[u8], at: usize) -> Read<Result<Decl, bool>>
     ensures { result ≡ screen_decl rec.now (decl_at rec.now at) }
 {
-    if let Found::At(p) = names::key_at(rec, at, b"decl=packet\n") {
-        return parented_at(rec, at, p, Parented::Packet);
+    if let Some(p) = names::key_at(rec, at, b"decl=packet\n") {
+        return parented_at(rec, at, p, |parent_id| DeclDesc::Packet { parent_id });
     }
-    if let Found::At(p) = names::key_at(rec, at, b"decl=struct\n") {
-        return parented_at(rec, at, p, Parented::Struct);
+    if let Some(p) = names::key_at(rec, at, b"decl=struct\n") {
+        return parented_at(rec, at, p, |parent_id| DeclDesc::Struct { parent_id });
     }
-    if let Found::At(p) = names::key_at(rec, at, b"decl=enum\n") {
+    if let Some(p) = names::key_at(rec, at, b"decl=enum\n") {
         return enum_at(rec, at, p);
     }
-    if let Found::At(p) = names::key_at(rec, at, b"decl=checksum\n") {
+    if let Some(p) = names::key_at(rec, at, b"decl=checksum\n") {
         return checksum_decl_at(rec, at, p);
     }
-    if let Found::At(p) = names::key_at(rec, at, b"decl=custom\n") {
+    if let Some(p) = names::key_at(rec, at, b"decl=custom\n") {
         return custom_at(rec, at, p);
     }
-    ScreenedDecl::Wrong
+    None
+}
+
+// A line of two words, and what each says.
+fn choice<T: Copy>(rec: &[u8], at: usize, first: &[u8], one: T, second: &[u8], two: T) -> Read<T>
+    ensures { result ≡ choice rec.now at (first.now, one) (second.now, two) }
+{
+    if let Some(p) = names::key_at(rec, at, first) {
+        return Some((one, p));
+    }
+    let p = names::key_at(rec, at, second)?;
+    Some((two, p))
+}
+
+// The same of a line that may be absent: it says what its first word says then.
+fn word_line<T: Copy>(
+    rec: &[u8],
+    at: usize,
+    first: &[u8],
+    one: T,
+    second: &[u8],
+    two: T,
+) -> (T, usize)
+    ensures { result ≡ word_line rec.now at (first.now, one) (second.now, two) }
+{
+    choice(rec, at, first, one, second, two).unwrap_or((one, at))
 }
 
 // `trailing`; `plain` where the line is absent.
-fn trailing_at(rec: &[u8], at: usize) -> TrailingRead
+#[tactic(auto, unfolding(definitions::specs::Record::trailing_at))]
+fn trailing_at(rec: &[u8], at: usize) -> (Trailing, usize)
     ensures { result ≡ trailing_at rec.now at }
 {
-    if let Found::At(next) = names::key_at(rec, at, b"trailing=plain\n") {
-        let trailing = Trailing::Plain;
-        return TrailingRead { trailing, next };
-    }
-    if let Found::At(next) = names::key_at(rec, at, b"trailing=padded\n") {
-        let trailing = Trailing::Padded;
-        return TrailingRead { trailing, next };
-    }
-    TrailingRead {
-        trailing: Trailing::Plain,
-        next: at,
-    }
+    word_line(
+        rec,
+        at,
+        b"trailing=plain\n",
+        Trailing::Plain,
+        b"trailing=padded\n",
+        Trailing::Padded,
+    )
 }
 
 // `raw`, likewise.
-fn raw_at(rec: &[u8], at: usize) -> RawRead
+#[tactic(auto, unfolding(definitions::specs::Record::raw_at))]
+fn raw_at(rec: &[u8], at: usize) -> (Raw, usize)
     ensures { result ≡ raw_at rec.now at }
 {
-    if let Found::At(next) = names::key_at(rec, at, b"raw=plain\n") {
-        let raw = Raw::Plain;
-        return RawRead { raw, next };
-    }
-    if let Found::At(next) = names::key_at(rec, at, b"raw=numbered\n") {
-        let raw = Raw::Numbered;
-        return RawRead { raw, next };
-    }
-    RawRead {
-        raw: Raw::Plain,
-        next: at,
-    }
+    word_line(
+        rec,
+        at,
+        b"raw=plain\n",
+        Raw::Plain,
+        b"raw=numbered\n",
+        Raw::Numbered,
+    )
 }
 
 // `products`, likewise.
-fn products_at(rec: &[u8], at: usize) -> ProductsRead
+#[tactic(auto, unfolding(definitions::specs::Record::products_at))]
+fn products_at(rec: &[u8], at: usize) -> (Products, usize)
     ensures { result ≡ products_at rec.now at }
 {
-    if let Found::At(next) = names::key_at(rec, at, b"products=plain\n") {
-        let products = Products::Plain;
-        return ProductsRead { products, next };
-    }
-    if let Found::At(next) = names::key_at(rec, at, b"products=divide\n") {
-        let products = Products::Divide;
-        return ProductsRead { products, next };
-    }
-    ProductsRead {
-        products: Products::Plain,
-        next: at,
-    }
+    word_line(
+        rec,
+        at,
+        b"products=plain\n",
+        Products::Plain,
+        b"products=divide\n",
+        Products::Divide,
+    )
 }
 
 // The lines that may be absent, in their order.
+#[tactic(auto, unfolding(definitions::specs::Record::optional_at))]
 fn optional_at(rec: &[u8], at: usize) -> OptionalRead
     ensures { result ≡ optional_at rec.now at }
 {
-    let first = trailing_at(rec, at);
-    let second = raw_at(rec, first.next);
-    let third = products_at(rec, second.next);
-    let trailing = first.trailing;
-    let raw = second.raw;
-    let products = third.products;
+    let (trailing, p) = trailing_at(rec, at);
+    let (raw, q) = raw_at(rec, p);
+    let (products, next) = products_at(rec, q);
     OptionalRead {
         trailing,
         raw,
         products,
-        next: third.next,
-    }
-}
-
-// A head with this target, whose last lines are read.
-fn head_of(
-    endianness: EndiannessValue,
-    arrays: Arrays,
-    target: ScreenedName,
-    last: OptionalRead,
-) -> ScreenedHead
-    ensures { result ≡ head_of endianness arrays target last }
-{
-    let trailing = last.trailing;
-    let raw = last.raw;
-    let products = last.products;
-    let next = last.next;
-    match target {
-        ScreenedName::Free(target) => {
-            let options = Options {
-                endianness,
-                arrays,
-                trailing,
-                raw,
-                products,
-            };
-            ScreenedHead::Is(Head { options, target }, next)
-        }
-        ScreenedName::Keyword => ScreenedHead::Keyword(next),
+        next,
     }
 }
 
 // The lines of the head behind `endian`.
-fn target_at(rec: &[u8], at: usize, endianness: EndiannessValue) -> ScreenedHead
+fn target_at(rec: &[u8], at: usize, endianness: EndiannessValue) -> Read<Option<Head>>
     ensures { result ≡ screen_head rec.now (target_at rec.now at endianness) }
 {
-    let ScreenedNameRead::Is(target, p) = keys::name_line(rec, at, b"target=") else {
-        return ScreenedHead::Wrong;
+    let (target, p) = keys::name_line(rec, at, b"target=")?;
+    let (arrays, q) = choice(
+        rec,
+        p,
+        b"arrays=lite\n",
+        Arrays::Lite,
+        b"arrays=full\n",
+        Arrays::Full,
+    )?;
+    let OptionalRead {
+        trailing,
+        raw,
+        products,
+        next,
+    } = optional_at(rec, q);
+    let options = Options {
+        endianness,
+        arrays,
+        trailing,
+        raw,
+        products,
     };
-    if let Found::At(q) = names::key_at(rec, p, b"arrays=lite\n") {
-        return head_of(endianness, Arrays::Lite, target, optional_at(rec, q));
-    }
-    if let Found::At(q) = names::key_at(rec, p, b"arrays=full\n") {
-        return head_of(endianness, Arrays::Full, target, optional_at(rec, q));
-    }
-    ScreenedHead::Wrong
+    let Some(target) = target else {
+        return Some((None, next));
+    };
+    Some((Some(Head { options, target }), next))
 }
 
 // The head: `endian`, `target`, `arrays`, and `trailing`, `raw` and `products` where they are there.
-pub fn head_at(rec: &[u8], at: usize) -> ScreenedHead
+#[tactic(auto, unfolding(definitions::specs::Record::head_at))]
+pub fn head_at(rec: &[u8], at: usize) -> Read<Option<Head>>
     ensures { result ≡ screen_head rec.now (head_at rec.now at) }
 {
-    if let Found::At(p) = names::key_at(rec, at, b"endian=little\n") {
-        return target_at(rec, p, EndiannessValue::LittleEndian);
-    }
-    if let Found::At(p) = names::key_at(rec, at, b"endian=big\n") {
-        return target_at(rec, p, EndiannessValue::BigEndian);
-    }
-    ScreenedHead::Wrong
+    let (endianness, p) = choice(
+        rec,
+        at,
+        b"endian=little\n",
+        EndiannessValue::LittleEndian,
+        b"endian=big\n",
+        EndiannessValue::BigEndian,
+    )?;
+    target_at(rec, p, endianness)
 }

@@ -1,6 +1,9 @@
 -- What the reader answers by tables that have room for the record is what the record says (`reading_in` and `reading`), and the tables of a
 -- record that passes give its declarations back.
 -- Assumes nothing.
+use Rattle.std.specs.Prelude.{Option, Some, None, Result, Ok, Err}
+use Rattle.std.specs.Option.{is_none}
+use Rattle.definitions.specs.Record.{Read, Declaration, Declarations, declarations_are, no_declarations, on_read, head_at, declarations_at, with_head, read_record, no_record}
 use Prim.Native.Nat.{ℕ, ◌+◌, ◌*◌, ◌/◌, ◌≤◌}
 use mathlib.Core.Bool.{Bool, true, false, ◌||◌}
 use mathlib.Core.List.{List, [], ◌∷◌}
@@ -12,22 +15,17 @@ use lib.Dec.{ltb, eqb}
 use lib.ListN.{length}
 use Rattle.definitions.specs.Bytes.{Text, any, part, pick}
 use Rattle.definitions.specs.Keywords.{is_keyword}
-use Rattle.definitions.specs.Record.{Declaration, Declarations, declarations_are, no_declarations, on_head, head_at, declarations_at, with_head, read_record, no_record}
 use Rattle.definitions.specs.Refusals.{any_keyword, declarations_names, keyword_name, too_many, refuse_if}
 use Rattle.tables.specs.Tables.{Tables, declarations_from, count_here}
 use Rattle.definitions.specs.Answer.{wrong_length}
 use Rattle.definitions.specs.declared.Head.{Head}
-use Rattle.definitions.specs.declared.HeadRead.{HeadRead}
 use Rattle.definitions.specs.declared.Refusal.{Refusal}
-use Rattle.definitions.specs.declared.ScreenedHead.{ScreenedHead}
 use Rattle.keywords.specs.Screens.{screen_head}
-use Rattle.places.specs.Places.{given, screen_decls, tables_from}
-use Rattle.places.specs.declared.DeclsRead.{DeclsRead}
+use Rattle.places.specs.Places.{given, filled_in, screen_decls, tables_from}
 use Rattle.places.proofs.Give.{Counted, Short, counts-give, tables-give}
 use Rattle.tables.proofs.Walks.{length-declarations, length_fields}
 use Rattle.ranges.proofs.Tests.{neither, long}
-use Rattle.record.specs.Reader.{read_verdict, reading_of, reading_read, reading, on_screened_head, tables_after, reading_counted, reading_keyword, reading_in, values_room, InTables, OfRecord}
-use Rattle.record.specs.declared.Reading.{Reading}
+use Rattle.record.specs.Reader.{read_verdict, reading_of, reading_read, reading, tables_after, reading_counted, reading_in, values_room, InTables, OfRecord}
 
 -- the lengths of document 01, and room for the values of the record's fields
 pub record Whole (s : Text) (t : Tables) : Type 0 where
@@ -90,20 +88,19 @@ module _ (s : Text) (at : ℕ) (t : Tables) (w : Whole s t) (right : wrong_lengt
 -- ---- the whole record
 
 -- the tables, where the length is right
-abbrev pub after_head : Text → Tables → ScreenedHead → Tables
-after_head s t g = on_screened_head g t (λ p. t) λ h p. filled s p t
+abbrev pub after_head : Text → Tables → Read (Option Head) → Tables
+after_head s t g = on_read g t λ target p. filled_in (is_none target) t (filled s p t)
 
 -- the answer by these tables
-abbrev in_head : Text → Tables → ScreenedHead → Reading
+abbrev in_head : Text → Tables → Read (Option Head) → Result (Head × ℕ) Refusal
 in_head s t g =
-    on_screened_head g (Reading.Refuse Refusal.RecordForm) (λ p. reading_keyword (screen_decls s true 0 (declarations_at s (length s) p)))
-    λ h p. reading_counted s h t (screen_decls s false 0 (declarations_at s (length s) p))
+    on_read g (Err Refusal.RecordForm) λ target p. reading_counted s t target (screen_decls s (is_none target) 0 (declarations_at s (length s) p))
 
 pub after-right : (s : Text) (t : Tables) → wrong_length s ≡ false → tables_after s t ≡ after_head s t (screen_head s (head_at s 0))
 unfolding tables_after
 after-right s t e = rw (e, tables_after)
 
-in-wrong : (s : Text) (t : Tables) → wrong_length s ≡ true → reading_in s t ≡ Reading.Refuse Refusal.RecordLength
+in-wrong : (s : Text) (t : Tables) → wrong_length s ≡ true → reading_in s t ≡ Err Refusal.RecordLength
 unfolding reading_in
 in-wrong s t e = rw (e, reading_in)
 
@@ -111,7 +108,7 @@ in_right : (s : Text) (t : Tables) → wrong_length s ≡ false → reading_in s
 unfolding reading_in
 in_right s t e = rw (e, reading_in)
 
-pub reading-wrong : (s : Text) → wrong_length s ≡ true → reading s ≡ Reading.Refuse Refusal.RecordLength
+pub reading-wrong : (s : Text) → wrong_length s ≡ true → reading s ≡ Err Refusal.RecordLength
 unfolding reading
 reading-wrong s e = rw (e, reading)
 
@@ -129,7 +126,7 @@ unfolding read_record
 reading-agrees s t w = by (wrong_length s) refl
   where
     keyword-first : (h : Head) → is_keyword (part s h.target) ≡ true → (r : Declarations)
-        → reading_keyword (screen_decls s true 0 r) ≡ reading_read s (with_head h r)
+        → reading_counted s t None (screen_decls s true 0 r) ≡ reading_read s (with_head h r)
     keyword-first h k (declarations_are ds) =
         sym (ap (λ (b : Bool). reading_of h (length ds) (refuse_if b Refusal.Keyword (read_verdict s ds)))
         (name-either s h ds ∙ ap (λ (b : Bool). b || any_keyword s (declarations_names ds)) k))
@@ -137,7 +134,7 @@ reading-agrees s t w = by (wrong_length s) refl
 
     on-names : wrong_length s ≡ false → (h : Head) (p : ℕ) (ds : List Declaration) → declarations_at s (length s) p ≡ declarations_are ds
         → (b : Bool) → any_keyword s (declarations_names ds) ≡ b
-        → reading_counted s h (filled s p t) (pick b DeclsRead.Keyword (DeclsRead.Is (0 + length ds)))
+        → reading_counted s (filled s p t) (Some h) (pick b (Err Refusal.Keyword) (Ok (0 + length ds)))
         ≡ reading_of h (length ds) (refuse_if b Refusal.Keyword (read_verdict s ds))
     on-names right h p ds e true k = refl
     on-names right h p ds e false k =
@@ -145,7 +142,7 @@ reading-agrees s t w = by (wrong_length s) refl
         ∙ ap (reading_of h (length ds)) (verdict-given s p t w right ds e k)
 
     on-declarations : wrong_length s ≡ false → (h : Head) → is_keyword (part s h.target) ≡ false → (p : ℕ) (r : Declarations)
-        → declarations_at s (length s) p ≡ r → reading_counted s h (filled s p t) (screen_decls s false 0 r) ≡ reading_read s (with_head h r)
+        → declarations_at s (length s) p ≡ r → reading_counted s (filled s p t) (Some h) (screen_decls s false 0 r) ≡ reading_read s (with_head h r)
     on-declarations right h k p (declarations_are ds) e =
         on-names right h p ds e (any_keyword s (declarations_names ds)) refl
         ∙ sym (ap (λ (b : Bool). reading_of h (length ds) (refuse_if b Refusal.Keyword (read_verdict s ds)))
@@ -153,16 +150,16 @@ reading-agrees s t w = by (wrong_length s) refl
     on-declarations right h k p no_declarations e = refl
 
     on-target : wrong_length s ≡ false → (h : Head) (p : ℕ) (b : Bool) → is_keyword (part s h.target) ≡ b
-        → in_head s (after_head s t (pick b (ScreenedHead.Keyword p) (ScreenedHead.Is h p))) (pick b (ScreenedHead.Keyword p) (ScreenedHead.Is h p))
+        → in_head s (after_head s t (pick b (Some (None, p)) (Some (Some h, p)))) (pick b (Some (None, p)) (Some (Some h, p)))
         ≡ reading_read s (with_head h (declarations_at s (length s) p))
     on-target right h p true k = keyword-first h k (declarations_at s (length s) p)
     on-target right h p false k = on-declarations right h k p (declarations_at s (length s) p) refl
 
-    on-head : wrong_length s ≡ false → (g : HeadRead)
+    on-head : wrong_length s ≡ false → (g : Read Head)
         → in_head s (after_head s t (screen_head s g)) (screen_head s g)
-        ≡ reading_read s (on_head g no_record λ h p. with_head h (declarations_at s (length s) p))
-    on-head right (HeadRead.Is h p) = on-target right h p (is_keyword (part s h.target)) refl
-    on-head right HeadRead.Wrong = refl
+        ≡ reading_read s (on_read g no_record λ h p. with_head h (declarations_at s (length s) p))
+    on-head right (Some (h, p)) = on-target right h p (is_keyword (part s h.target)) refl
+    on-head right None = refl
 
     by : (b : Bool) → wrong_length s ≡ b → reading_in s (tables_after s t) ≡ reading s
     by true e = in-wrong s (tables_after s t) e ∙ sym (reading-wrong s e)
@@ -172,5 +169,5 @@ reading-agrees s t w = by (wrong_length s) refl
         ∙ on-head e (head_at s 0)
         ∙ sym (reading-right s e)
 
-pub of-record : {s : Text} {t u : Tables} {r : Reading} → Whole s t → InTables s t r u → OfRecord s t r u
+pub of-record : {s : Text} {t u : Tables} {r : Result (Head × ℕ) Refusal} → Whole s t → InTables s t r u → OfRecord s t r u
 of-record {s} {t} w i = record { answer = i.answer ∙ ap (reading_in s) i.tables ∙ reading-agrees s t w; tables = i.tables }

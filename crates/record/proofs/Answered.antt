@@ -1,6 +1,9 @@
 -- What the reader's answer says of the whole answer: a refusal is the record's, and a record that passes is judged on by 7 to 9 over the
 -- declarations that the tables give.
 -- Assumes nothing.
+use Rattle.std.specs.Prelude.{Some, None, Result, Ok, Err}
+use Rattle.definitions.specs.Record.{Read, Declaration, Declarations, declarations_are, no_declarations, RecordRead, record_is, no_record, on_read, head_at, declarations_at, with_head, read_record}
+use Rattle.definitions.specs.Refusals.{Verdict, any_keyword, declarations_names, keyword_name, too_many, duplicate_name, unknown_name, out_of_range, large, ragged, misstated, no_target, refuse_if, verdict}
 use Prim.Native.Nat.{ℕ, ◌≤◌, ◌<◌}
 use mathlib.Core.Bool.{Bool, true, false}
 use mathlib.Core.List.{List}
@@ -9,24 +12,18 @@ use native.Mathlib.Omega.{arith}
 use lib.ListN.{length}
 use Rattle.definitions.specs.Bytes.{Text, part, pick}
 use Rattle.definitions.specs.Keywords.{is_keyword}
-use Rattle.definitions.specs.Record.{Declaration, Declarations, declarations_are, no_declarations, RecordRead, record_is, no_record, on_head, head_at, declarations_at, with_head, read_record}
 use Rattle.definitions.specs.Sizes.{Schema, new_schema}
-use Rattle.definitions.specs.Refusals.{any_keyword, declarations_names, keyword_name, too_many, duplicate_name, unknown_name, out_of_range, large, ragged, misstated, no_target, refuse_if, verdict}
 use Rattle.definitions.specs.FieldParser.{refused}
 use Rattle.definitions.specs.Answer.{wrong_length, lower_record, answer_read, answer}
 use Rattle.definitions.specs.All.{refused_all, all_record, all_read, answer_all}
 use Rattle.definitions.specs.declared.Head.{Head}
-use Rattle.definitions.specs.declared.HeadRead.{HeadRead}
 use Rattle.definitions.specs.declared.Refusal.{Refusal}
-use Rattle.definitions.specs.declared.Verdict.{Verdict}
-use Rattle.definitions.specs.declared.ScreenedHead.{ScreenedHead}
 use Rattle.keywords.specs.Screens.{screen_head}
 use Rattle.tables.specs.Tables.{Tables, count_here}
 use Rattle.places.specs.Places.{given}
 use Rattle.ranges.specs.Ranges.{bare}
 use Rattle.ranges.proofs.Tests.{neither, few-declarations, few-fields}
 use Rattle.record.specs.Reader.{read_verdict, first_verdict, reading_of, reading_read, reading, tables_after}
-use Rattle.record.specs.declared.Reading.{Reading}
 use Rattle.record.proofs.Verdicts.{many-bare}
 use Rattle.record.proofs.Agree.{Whole, few-given, reading-wrong, reading-right, after-right, after_head, filled}
 
@@ -38,12 +35,12 @@ later_verdict s h schema =
     refuse_if (large schema) Refusal.TooLarge
     (refuse_if (ragged s schema) Refusal.NotWholeBytes
     (refuse_if (misstated schema) Refusal.Misstated
-    (refuse_if (no_target s h schema) Refusal.NoTarget Verdict.Pass)))
+    (refuse_if (no_target s h schema) Refusal.NoTarget (Ok tt))))
 
 -- one refusal before the others
 abbrev pub on_verdict : Verdict → Verdict → Verdict
-on_verdict Verdict.Pass next = next
-on_verdict (Verdict.Refuse why) next = Verdict.Refuse why
+on_verdict (Ok tt) next = next
+on_verdict (Err why) next = Err why
 
 on-refuse : (b : Bool) (why : Refusal) (x next : Verdict) → refuse_if b why (on_verdict x next) ≡ on_verdict (refuse_if b why x) next
 on-refuse true why x next = refl
@@ -56,7 +53,7 @@ verdict-parts s h ds schema =
     ap (refuse_if (keyword_name s h ds) Refusal.Keyword)
     (ap (refuse_if (too_many ds) Refusal.TooMany)
     (ap (refuse_if (duplicate_name s ds) Refusal.DuplicateName)
-    (ap (refuse_if (unknown_name s ds) Refusal.UnknownName) (on-refuse (out_of_range ds) Refusal.OutOfRange Verdict.Pass next)
+    (ap (refuse_if (unknown_name s ds) Refusal.UnknownName) (on-refuse (out_of_range ds) Refusal.OutOfRange (Ok tt) next)
     ∙ on-refuse (unknown_name s ds) Refusal.UnknownName range next)
     ∙ on-refuse (duplicate_name s ds) Refusal.DuplicateName (refuse_if (unknown_name s ds) Refusal.UnknownName range) next)
     ∙ on-refuse (too_many ds) Refusal.TooMany (refuse_if (duplicate_name s ds) Refusal.DuplicateName (refuse_if (unknown_name s ds) Refusal.UnknownName range)) next)
@@ -66,7 +63,7 @@ verdict-parts s h ds schema =
     next = later_verdict s h schema
 
     range : Verdict
-    range = refuse_if (out_of_range ds) Refusal.OutOfRange Verdict.Pass
+    range = refuse_if (out_of_range ds) Refusal.OutOfRange (Ok tt)
 
 -- ---- a refusal by 1, 2, 16 or 3 to 6 is the record's
 
@@ -74,27 +71,27 @@ data Turned (s : Text) (why : Refusal) : Type 0 where
   wrong : wrong_length s ≡ true → Refusal.RecordLength ≡ why → Turned s why
   form : wrong_length s ≡ false → read_record s ≡ no_record → Refusal.RecordForm ≡ why → Turned s why
   judged : (h : Head) (ds : List Declaration) → wrong_length s ≡ false → read_record s ≡ record_is h ds
-      → verdict s h ds (new_schema s ds) ≡ Verdict.Refuse why → Turned s why
+      → verdict s h ds (new_schema s ds) ≡ Err why → Turned s why
 
-turned : (s : Text) (why : Refusal) → reading s ≡ Reading.Refuse why → Turned s why
+turned : (s : Text) (why : Refusal) → reading s ≡ Err why → Turned s why
 turned s why e = by (wrong_length s) refl
   where
-    on-verdict : (h : Head) (ds : List Declaration) (v : Verdict) → first_verdict s h ds ≡ v → reading_of h (length ds) v ≡ Reading.Refuse why
-        → verdict s h ds (new_schema s ds) ≡ Verdict.Refuse why
-    on-verdict h ds Verdict.Pass ev k = absurd (let z : ◌≡◌ {A = ℕ} 0 1 = cc in omega arith)
-    on-verdict h ds (Verdict.Refuse w) ev k =
+    on-verdict : (h : Head) (ds : List Declaration) (v : Verdict) → first_verdict s h ds ≡ v → reading_of h (length ds) v ≡ Err why
+        → verdict s h ds (new_schema s ds) ≡ Err why
+    on-verdict h ds (Ok tt) ev k = absurd (let z : ◌≡◌ {A = ℕ} 0 1 = cc in omega arith)
+    on-verdict h ds (Err w) ev k =
         let q : w ≡ why = cc in
-        verdict-parts s h ds (new_schema s ds) ∙ ap (λ (v : Verdict). on_verdict v (later_verdict s h (new_schema s ds))) (ev ∙ ap Verdict.Refuse q)
+        verdict-parts s h ds (new_schema s ds) ∙ ap (λ (v : Verdict). on_verdict v (later_verdict s h (new_schema s ds))) (ev ∙ ap Err q)
 
-    on_read : wrong_length s ≡ false → (r : RecordRead) → read_record s ≡ r → reading_read s r ≡ Reading.Refuse why → Turned s why
-    on_read w no_record er k = Turned.form w er (let q : Refusal.RecordForm ≡ why = cc in q)
-    on_read w (record_is h ds) er k = Turned.judged h ds w er (on-verdict h ds (first_verdict s h ds) refl k)
+    on-read : wrong_length s ≡ false → (r : RecordRead) → read_record s ≡ r → reading_read s r ≡ Err why → Turned s why
+    on-read w no_record er k = Turned.form w er (let q : Refusal.RecordForm ≡ why = cc in q)
+    on-read w (record_is h ds) er k = Turned.judged h ds w er (on-verdict h ds (first_verdict s h ds) refl k)
 
     by : (b : Bool) → wrong_length s ≡ b → Turned s why
     by true w = Turned.wrong w (let q : Refusal.RecordLength ≡ why = cc (reading-wrong s w) in q)
-    by false w = on_read w (read_record s) refl (sym (reading-right s w) ∙ e)
+    by false w = on-read w (read_record s) refl (sym (reading-right s w) ∙ e)
 
-pub answer-refused : (s : Text) (why : Refusal) → reading s ≡ Reading.Refuse why → answer s ≡ refused why
+pub answer-refused : (s : Text) (why : Refusal) → reading s ≡ Err why → answer s ≡ refused why
 unfolding answer lower_record
 answer-refused s why e = by (turned s why e)
   where
@@ -103,7 +100,7 @@ answer-refused s why e = by (turned s why e)
     by (Turned.form w r q) = rw (answer, w, r, q)
     by (Turned.judged h ds w r v) = rw (answer, w, r, lower_record, v)
 
-pub all-refused : (s : Text) (why : Refusal) → reading s ≡ Reading.Refuse why → answer_all s ≡ refused_all why
+pub all-refused : (s : Text) (why : Refusal) → reading s ≡ Err why → answer_all s ≡ refused_all why
 unfolding answer_all all_record
 all-refused s why e = by (turned s why e)
   where
@@ -118,12 +115,12 @@ pub record Passed (s : Text) (h : Head) (n : ℕ) (t : Tables) : Type 0 where
   pub right-length : wrong_length s ≡ false
   pub read : read_record s ≡ record_is h (given t n)
   pub no-keyword : keyword_name s h (given t n) ≡ false
-  pub passed : read_verdict s (given t n) ≡ Verdict.Pass
+  pub passed : read_verdict s (given t n) ≡ (Ok tt)
   pub few : n ≤ 32
   pub short : (i : ℕ) → i < n → count_here t.rows i ≤ 64
 
 -- 16 is not met
-none_first : (b : Bool) (v : Verdict) → refuse_if b Refusal.Keyword v ≡ Verdict.Pass → (b ≡ false) × (v ≡ Verdict.Pass)
+none_first : (b : Bool) (v : Verdict) → refuse_if b Refusal.Keyword v ≡ (Ok tt) → (b ≡ false) × (v ≡ (Ok tt))
 none_first true v e = absurd (let z : ◌≡◌ {A = ℕ} 0 1 = cc in omega arith)
 none_first false v e = (refl, e)
 
@@ -134,17 +131,17 @@ unfolding any_keyword
 none-either s h ds e = neither (is_keyword (part s h.target)) (any_keyword s (declarations_names ds)) e
 
 -- 3 is not met
-none-many : (s : Text) (ds : List Declaration) → read_verdict s ds ≡ Verdict.Pass → too_many ds ≡ false
+none-many : (s : Text) (ds : List Declaration) → read_verdict s ds ≡ (Ok tt) → too_many ds ≡ false
 unfolding read_verdict
 none-many s ds e = by (too_many ds) refl
   where
     by : (b : Bool) → too_many ds ≡ b → b ≡ false
-    by true h = absurd (let k : Verdict.Refuse Refusal.TooMany ≡ Verdict.Pass = rw h at e in let z : ◌≡◌ {A = ℕ} 0 1 = cc in omega arith)
+    by true h = absurd (let k : Err Refusal.TooMany ≡ (Ok tt) = rw h at e in let z : ◌≡◌ {A = ℕ} 0 1 = cc in omega arith)
     by false h = refl
 
 module _ (s : Text) (t : Tables) (w : Whole s t) (right : wrong_length s ≡ false) where
-  passed-with : (h : Head) (p : ℕ) (ds : List Declaration) → head_at s 0 ≡ HeadRead.Is h p → declarations_at s (length s) p ≡ declarations_are ds
-      → keyword_name s h ds ≡ false → read_verdict s ds ≡ Verdict.Pass → Passed s h (length ds) (tables_after s t)
+  passed-with : (h : Head) (p : ℕ) (ds : List Declaration) → head_at s 0 ≡ Some (h, p) → declarations_at s (length s) p ≡ declarations_are ds
+      → keyword_name s h ds ≡ false → read_verdict s ds ≡ (Ok tt) → Passed s h (length ds) (tables_after s t)
   unfolding read_record
   passed-with h p ds eh ed ek ev = record {
     right-length = right;
@@ -159,7 +156,7 @@ module _ (s : Text) (t : Tables) (w : Whole s t) (right : wrong_length s ≡ fal
       after =
           after-right s t right
           ∙ ap (after_head s t)
-          (ap (screen_head s) eh ∙ ap (λ (b : Bool). pick b (ScreenedHead.Keyword p) (ScreenedHead.Is h p)) (none-either s h ds ek).0)
+          (ap (screen_head s) eh ∙ ap (λ (b : Bool). pick b (Some (None, p)) (Some (Some h, p))) (none-either s h ds ek).0)
 
       back : given (tables_after s t) (length ds) ≡ ds
       back =
@@ -171,30 +168,35 @@ module _ (s : Text) (t : Tables) (w : Whole s t) (right : wrong_length s ≡ fal
           sym (many-bare (tables_after s t).rows (tables_after s t).values (tables_after s t).fields (length ds))
           ∙ ap too_many back ∙ none-many s ds ev
 
-pub reading-passed : (s : Text) (t : Tables) → Whole s t → (h : Head) (n : ℕ) → reading s ≡ Reading.Pass h n → Passed s h n (tables_after s t)
-unfolding read_record
+-- a part of what passes
+at_ok : {A : Type 0} → Head → ℕ → (Head → ℕ → A) → Result (Head × ℕ) Refusal → A
+at_ok g n f (Ok (h, m)) = f h m
+at_ok g n f (Err why) = f g n
+
+pub reading-passed : (s : Text) (t : Tables) → Whole s t → (h : Head) (n : ℕ) → reading s ≡ Ok (h, n) → Passed s h n (tables_after s t)
+unfolding read_record at_ok
 reading-passed s t w h n e = by (wrong_length s) refl
   where
     on-verdict : wrong_length s ≡ false → (g : Head) (p : ℕ) (ds : List Declaration)
-        → head_at s 0 ≡ HeadRead.Is g p → declarations_at s (length s) p ≡ declarations_are ds
-        → (v : Verdict) → first_verdict s g ds ≡ v → reading_of g (length ds) v ≡ Reading.Pass h n → Passed s h n (tables_after s t)
-    on-verdict r g p ds eh ed Verdict.Pass ev k =
-        let eg : g ≡ h = cc in
-        let en : length ds ≡ n = cc in
-        let none : (keyword_name s g ds ≡ false) × (read_verdict s ds ≡ Verdict.Pass) = none_first (keyword_name s g ds) (read_verdict s ds) ev in
+        → head_at s 0 ≡ Some (g, p) → declarations_at s (length s) p ≡ declarations_are ds
+        → (v : Verdict) → first_verdict s g ds ≡ v → reading_of g (length ds) v ≡ Ok (h, n) → Passed s h n (tables_after s t)
+    on-verdict r g p ds eh ed (Ok tt) ev k =
+        let eg : g ≡ h = ap (at_ok g n λ x m. x) k in
+        let en : length ds ≡ n = ap (at_ok g n λ x m. m) k in
+        let none : (keyword_name s g ds ≡ false) × (read_verdict s ds ≡ (Ok tt)) = none_first (keyword_name s g ds) (read_verdict s ds) ev in
         subst (λ (x : Head). Passed s x n (tables_after s t)) eg
         (subst (λ (m : ℕ). Passed s g m (tables_after s t)) en (passed-with s t w r g p ds eh ed none.0 none.1))
-    on-verdict r g p ds eh ed (Verdict.Refuse why) ev k = absurd (let z : ◌≡◌ {A = ℕ} 0 1 = cc in omega arith)
+    on-verdict r g p ds eh ed (Err why) ev k = absurd (let z : ◌≡◌ {A = ℕ} 0 1 = cc in omega arith)
 
-    on-declarations : wrong_length s ≡ false → (g : Head) (p : ℕ) → head_at s 0 ≡ HeadRead.Is g p → (d : Declarations) → declarations_at s (length s) p ≡ d
-        → reading_read s (with_head g d) ≡ Reading.Pass h n → Passed s h n (tables_after s t)
+    on-declarations : wrong_length s ≡ false → (g : Head) (p : ℕ) → head_at s 0 ≡ Some (g, p) → (d : Declarations) → declarations_at s (length s) p ≡ d
+        → reading_read s (with_head g d) ≡ Ok (h, n) → Passed s h n (tables_after s t)
     on-declarations r g p eh (declarations_are ds) ed k = on-verdict r g p ds eh ed (first_verdict s g ds) refl k
     on-declarations r g p eh no_declarations ed k = absurd (let z : ◌≡◌ {A = ℕ} 0 1 = cc in omega arith)
 
-    on-head : wrong_length s ≡ false → (g : HeadRead) → head_at s 0 ≡ g
-        → reading_read s (on_head g no_record λ x p. with_head x (declarations_at s (length s) p)) ≡ Reading.Pass h n → Passed s h n (tables_after s t)
-    on-head r (HeadRead.Is g p) eh k = on-declarations r g p eh (declarations_at s (length s) p) refl k
-    on-head r HeadRead.Wrong eh k = absurd (let z : ◌≡◌ {A = ℕ} 0 1 = cc in omega arith)
+    on-head : wrong_length s ≡ false → (g : Read Head) → head_at s 0 ≡ g
+        → reading_read s (on_read g no_record λ x p. with_head x (declarations_at s (length s) p)) ≡ Ok (h, n) → Passed s h n (tables_after s t)
+    on-head r (Some (g, p)) eh k = on-declarations r g p eh (declarations_at s (length s) p) refl k
+    on-head r None eh k = absurd (let z : ◌≡◌ {A = ℕ} 0 1 = cc in omega arith)
 
     by : (b : Bool) → wrong_length s ≡ b → Passed s h n (tables_after s t)
     by true r = absurd (let z : ◌≡◌ {A = ℕ} 0 1 = cc (reading-wrong s r) in omega arith)

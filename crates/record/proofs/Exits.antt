@@ -1,85 +1,99 @@
 -- The exits of the reader over tables of any length (`reading_in`, `tables_after`).
 -- Assumes nothing.
-use Prim.Native.Nat.{ℕ, ◌≤◌, ◌<◌}
-use mathlib.Core.Bool.{true, false}
-use mathlib.Core.List.{List}
-use mathlib.Core.Path.{◌≡◌, sym, ap, ◌∙◌}
-use borrow.Author.Tests.{eq-eqb, ne_eqb, lt-ltb, le-ltb}
-use lib.ListN.{length}
-use Rattle.definitions.specs.Record.{head_at}
+use Rattle.std.specs.Prelude.{Option, Some, None, Result, Ok, Err, ◌≡◌, List, Bool, true, false, not, ◌||◌, ◌==◌, nat_lt, ℕ, ◌≤◌, ◌<◌, length}
+use mathlib.Core.Path.{sym, ap, ◌∙◌}
+use Rattle.std.specs.Option.{is_some, is_none, ok_or}
+use Rattle.definitions.specs.Record.{Read, head_at, declarations_at}
+use Rattle.definitions.specs.Refusals.{Verdict, on_ok}
+use native.Mathlib.Omega.{arith}
+use borrow.Author.Tests.{lt-ltb, le-ltb}
+use Rattle.std.proofs.lemmas.Bool.{or_from}
 use Rattle.definitions.specs.Answer.{wrong_length}
-use Rattle.tables.specs.Tables.{tables_of, declarations_from}
+use Rattle.tables.specs.Tables.{Tables, tables_of, declarations_from}
 use Rattle.definitions.specs.declared.Head.{Head}
 use Rattle.definitions.specs.declared.Refusal.{Refusal}
-use Rattle.definitions.specs.declared.Verdict.{Verdict}
-use Rattle.definitions.specs.declared.ScreenedHead.{ScreenedHead}
 use Rattle.keywords.specs.Screens.{screen_head}
-use Rattle.places.specs.Places.{Read}
-use Rattle.places.specs.declared.DeclsRead.{DeclsRead}
-use Rattle.record.specs.Reader.{read_verdict, reading_of, reading_counted, reading_keyword, reading_in, tables_after, InTables}
-use Rattle.record.specs.declared.Reading.{Reading}
+use Rattle.places.specs.Places.{screen_decls, FilledAll}
+use Rattle.record.specs.Reader.{read_verdict, reading_of, reading_counted, reading_in, tables_after, InTables}
+
+none-is : (a b : Bool) → a ≡ not b → b ≡ not a
+none-is a true e = ap not (sym e)
+none-is a false e = ap not (sym e)
 
 module _ (s rows values fields : List ℕ) where
-  length-wrong : wrong_length s ≡ true → InTables s (tables_of s rows values fields) (Reading.Refuse Refusal.RecordLength) (tables_of s rows values fields)
+  abbrev before : Tables
+  before = tables_of s rows values fields
+
+  length-wrong : wrong_length s ≡ true → InTables s before (Err Refusal.RecordLength) before
   unfolding reading_in tables_after
   length-wrong h = record { answer = rw (h, reading_in); tables = rw (h, tables_after) }
 
-  pub length-empty : length s ≡ 0 → InTables s (tables_of s rows values fields) (Reading.Refuse Refusal.RecordLength) (tables_of s rows values fields)
-  length-empty h = length-wrong (rw (eq-eqb (length s) 0 h))
+  module _ {e : Bool} (ee : e ≡ (length s == 0)) where
+    pub length-empty : e ≡ true → InTables s before (Err Refusal.RecordLength) before
+    length-empty he = length-wrong (ap (λ (k : Bool). k || nat_lt 16384 (length s)) (sym ee ∙ he))
 
-  module _ (some : length s ≡ 0 → ⊥) where
-    pub length-long : 16384 < length s → InTables s (tables_of s rows values fields) (Reading.Refuse Refusal.RecordLength) (tables_of s rows values fields)
-    length-long h = length-wrong (rw (ne_eqb (length s) 0 some, lt-ltb 16384 (length s) h))
+    pub length-long : e ≡ false → 16384 < length s → InTables s before (Err Refusal.RecordLength) before
+    length-long he h = length-wrong (ap (λ (k : Bool). k || nat_lt 16384 (length s)) (sym ee ∙ he) ∙ lt-ltb 16384 (length s) h)
 
-    module _ (short : length s ≤ 16384) {g : ScreenedHead} (eg : g ≡ screen_head s (head_at s 0)) where
-      length-right : wrong_length s ≡ false
-      length-right = rw (ne_eqb (length s) 0 some, le-ltb 16384 (length s) short)
+    pub length-right : e ≡ false → length s ≤ 16384 → wrong_length s ≡ false
+    length-right he h = or_from _ _ (sym ee ∙ he) (le-ltb 16384 (length s) h)
 
-      pub head-wrong : g ≡ ScreenedHead.Wrong
-          → InTables s (tables_of s rows values fields) (Reading.Refuse Refusal.RecordForm) (tables_of s rows values fields)
-      unfolding reading_in tables_after
-      head-wrong h = record { answer = rw (length-right, reading_in, sym eg ∙ h); tables = rw (length-right, tables_after, sym eg ∙ h) }
+  module _ (right : wrong_length s ≡ false) {g : Read (Option Head)} (eg : g ≡ screen_head s (head_at s 0)) {a : Result (Option Head × ℕ) Refusal}
+      (ea : a ≡ ok_or g Refusal.RecordForm) where
+    pub head-wrong : {why : Refusal} → a ≡ Err why → InTables s before (Err why) before
+    unfolding reading_in tables_after
+    head-wrong {why} ha = by g eg ea
+      where
+        by : (x : Read (Option Head)) → x ≡ screen_head s (head_at s 0) → a ≡ ok_or x Refusal.RecordForm → InTables s before (Err why) before
+        by None ex k =
+            let q : Refusal.RecordForm ≡ why = cc in
+            record { answer = rw (right, reading_in, sym ex) (ap Err (sym q)); tables = rw (right, tables_after, sym ex) }
+        by (Some x) ex k = absurd (let z : ◌≡◌ {A = ℕ} 0 1 = cc in omega arith)
 
-      module _ {at : ℕ} (hg : g ≡ ScreenedHead.Keyword at) {d : DeclsRead} {x y z : List ℕ} (r : Read s true at rows values fields d x y z) where
-        target-form : reading_keyword d ≡ reading_in s (tables_of s x y z)
-        unfolding reading_in
-        target-form = rw (length-right, reading_in, sym eg ∙ hg) (ap reading_keyword r.answer)
+    module _ {target : Option Head} {at : ℕ} (ha : a ≡ Ok (target, at)) where
+      hg : g ≡ Some (target, at)
+      hg = by g ea
+        where
+          by : (x : Read (Option Head)) → a ≡ ok_or x Refusal.RecordForm → x ≡ Some (target, at)
+          by None k = absurd (let z : ◌≡◌ {A = ℕ} 0 1 = cc in omega arith)
+          by (Some x) k = cc
 
-        target-kept : tables_of s x y z ≡ tables_after s (tables_of s rows values fields)
+      module _ {b : Bool} (eb : is_some target ≡ not b) {d : Result ℕ Refusal} {x y z : List ℕ} (r : FilledAll s b at rows values fields d x y z) where
+        abbrev after : Tables
+        after = tables_of s x y z
+
+        kept : b ≡ is_none target
+        kept = none-is (is_some target) b eb
+
+        filled : after ≡ tables_after s before
         unfolding tables_after
-        target-kept = r.tables ∙ rw (length-right, tables_after, sym eg ∙ hg)
+        filled = r.tables ∙ rw (right, tables_after, sym eg ∙ hg, kept)
 
-        pub target-keyword : d ≡ DeclsRead.Keyword → InTables s (tables_of s rows values fields) (Reading.Refuse Refusal.Keyword) (tables_of s x y z)
-        target-keyword hd = record { answer = rw hd at target-form; tables = target-kept }
-
-        pub target-read : {n : ℕ} → d ≡ DeclsRead.Is n → InTables s (tables_of s rows values fields) (Reading.Refuse Refusal.Keyword) (tables_of s x y z)
-        target-read hd = record { answer = rw hd at target-form; tables = target-kept }
-
-        pub target-wrong : d ≡ DeclsRead.Wrong → InTables s (tables_of s rows values fields) (Reading.Refuse Refusal.RecordForm) (tables_of s x y z)
-        target-wrong hd = record { answer = rw hd at target-form; tables = target-kept }
-
-      module _ {h : Head} {at : ℕ} (hg : g ≡ ScreenedHead.Is h at) {d : DeclsRead} {x y z : List ℕ} (r : Read s false at rows values fields d x y z) where
-        after : tables_of s x y z ≡ tables_after s (tables_of s rows values fields)
-        unfolding tables_after
-        after = r.tables ∙ rw (length-right, tables_after, sym eg ∙ hg)
-
-        counts : reading_in s (tables_of s x y z) ≡ reading_counted s h (tables_of s x y z) d
+        counts : reading_counted s after target d ≡ reading_in s after
         unfolding reading_in
-        counts = rw (length-right, reading_in, sym eg ∙ hg) (ap (reading_counted s h (tables_of s x y z)) (sym r.answer))
+        counts =
+            ap (reading_counted s after target) (r.answer ∙ ap (λ (k : Bool). screen_decls s k 0 (declarations_at s (length s) at)) kept)
+            ∙ rw (right, reading_in, sym eg ∙ hg)
 
-        pub form-wrong : d ≡ DeclsRead.Wrong → InTables s (tables_of s rows values fields) (Reading.Refuse Refusal.RecordForm) (tables_of s x y z)
-        form-wrong hd = record { answer = sym (counts ∙ ap (reading_counted s h (tables_of s x y z)) hd); tables = after }
+        pub form-wrong : {why : Refusal} → d ≡ Err why → InTables s before (Err why) after
+        form-wrong hd = record { answer = ap (reading_counted s after target) (sym hd) ∙ counts; tables = filled }
 
-        pub form-keyword : d ≡ DeclsRead.Keyword → InTables s (tables_of s rows values fields) (Reading.Refuse Refusal.Keyword) (tables_of s x y z)
-        form-keyword hd = record { answer = sym (counts ∙ ap (reading_counted s h (tables_of s x y z)) hd); tables = after }
+        module _ {n : ℕ} (hd : d ≡ Ok n) {o : Result Head Refusal} (eo : o ≡ ok_or target Refusal.Keyword) where
+          abbrev rest : Result Head Refusal → Result (Head × ℕ) Refusal
+          rest k = on_ok k λ h. reading_of h n (read_verdict s (declarations_from x y z 0 n))
 
-        pub form-right : {n : ℕ} → d ≡ DeclsRead.Is n → {v : Reading} → v ≡ reading_of h n (read_verdict s (declarations_from x y z 0 n))
-            → InTables s (tables_of s rows values fields) v (tables_of s x y z)
-        form-right hd ev = record { answer = ev ∙ sym (counts ∙ ap (reading_counted s h (tables_of s x y z)) hd); tables = after }
+          named : rest o ≡ reading_in s after
+          named = ap rest eo ∙ ap (reading_counted s after target) (sym hd) ∙ counts
 
-module _ (h : Head) (n : ℕ) {v w : Verdict} (ev : v ≡ w) where
-  pub judge-pass : v ≡ Verdict.Pass → Reading.Pass h n ≡ reading_of h n w
-  judge-pass hv = ap (reading_of h n) (sym hv ∙ ev)
+          pub target-keyword : {why : Refusal} → o ≡ Err why → InTables s before (Err why) after
+          target-keyword ho = record { answer = ap rest (sym ho) ∙ named; tables = filled }
 
-  pub judge-refuse : {why : Refusal} → v ≡ Verdict.Refuse why → Reading.Refuse why ≡ reading_of h n w
-  judge-refuse hv = ap (reading_of h n) (sym hv ∙ ev)
+          module _ {h : Head} (ho : o ≡ Ok h) {v : Verdict} (ev : v ≡ read_verdict s (declarations_from x y z 0 n)) where
+            judged : reading_of h n v ≡ reading_in s after
+            judged = ap (reading_of h n) ev ∙ ap rest (sym ho) ∙ named
+
+            pub refused : {why : Refusal} → v ≡ Err why → InTables s before (Err why) after
+            refused hv = record { answer = ap (reading_of h n) (sym hv) ∙ judged; tables = filled }
+
+            pub passes : v ≡ Ok tt → InTables s before (Ok (h, n)) after
+            passes hv = record { answer = ap (reading_of h n) (sym hv) ∙ judged; tables = filled }

@@ -1,5 +1,6 @@
 -- The exits of refusals 3 to 6 over the tables (`read_verdict`).
 -- Assumes nothing.
+use Rattle.std.specs.Prelude.{Ok, Err}
 use Prim.Native.Nat.{ℕ, zero, suc, ◌+◌, ◌*◌}
 use mathlib.Core.Bool.{Bool, true, false}
 use mathlib.Core.List.{List, []}
@@ -9,7 +10,6 @@ use Rattle.definitions.specs.Refusals.{too_many, duplicate_name, unknown_name, o
 use Rattle.tables.specs.Tables.{decl_here, count_here, declarations_from}
 use Rattle.definitions.specs.declared.Part.{Part}
 use Rattle.definitions.specs.declared.Refusal.{Refusal}
-use Rattle.definitions.specs.declared.Verdict.{Verdict}
 use Rattle.tables.proofs.Walks.{length-declarations, length_fields}
 use Rattle.ranges.specs.Ranges.{bare}
 use Rattle.ranges.proofs.Tests.{long}
@@ -56,7 +56,7 @@ module _ (s rows values fields : List ℕ) (n : ℕ) {a : Bool} (ea : a ≡ too_
   many : too_many (declarations_from rows values fields 0 n) ≡ a
   many = many-bare rows values fields n ∙ sym ea
 
-  pub refuse-many : a ≡ true → Verdict.Refuse Refusal.TooMany ≡ read_verdict s (declarations_from rows values fields 0 n)
+  pub refuse-many : a ≡ true → Err Refusal.TooMany ≡ read_verdict s (declarations_from rows values fields 0 n)
   unfolding read_verdict
   refuse-many h = rw (many ∙ h)
 
@@ -64,20 +64,20 @@ module _ (s rows values fields : List ℕ) (n : ℕ) {a : Bool} (ea : a ≡ too_
     duplicate : duplicate_name s (declarations_from rows values fields 0 n) ≡ b
     duplicate = duplicate-bare s rows values fields 0 n ∙ sym eb
 
-    pub refuse-duplicate : b ≡ true → Verdict.Refuse Refusal.DuplicateName ≡ read_verdict s (declarations_from rows values fields 0 n)
+    pub refuse-duplicate : b ≡ true → Err Refusal.DuplicateName ≡ read_verdict s (declarations_from rows values fields 0 n)
     unfolding read_verdict
     refuse-duplicate h = rw (many ∙ ha, duplicate ∙ h)
 
     module _ (hb : b ≡ false) {u : Bool} (eu : u ≡ unknown_name s (declarations_from rows values fields 0 n)) where
-      pub refuse-unknown : u ≡ true → Verdict.Refuse Refusal.UnknownName ≡ read_verdict s (declarations_from rows values fields 0 n)
+      pub refuse-unknown : u ≡ true → Err Refusal.UnknownName ≡ read_verdict s (declarations_from rows values fields 0 n)
       unfolding read_verdict
       refuse-unknown h = rw (many ∙ ha, duplicate ∙ hb, sym eu ∙ h)
 
       module _ (hu : u ≡ false) {o : Bool} (eo : o ≡ out_of_range (declarations_from rows values fields 0 n)) where
-        pub refuse-range : o ≡ true → Verdict.Refuse Refusal.OutOfRange ≡ read_verdict s (declarations_from rows values fields 0 n)
+        pub refuse-range : o ≡ true → Err Refusal.OutOfRange ≡ read_verdict s (declarations_from rows values fields 0 n)
         unfolding read_verdict
         refuse-range h = rw (many ∙ ha, duplicate ∙ hb, sym eu ∙ hu, sym eo ∙ h)
 
-        pub refuse-none : o ≡ false → Verdict.Pass ≡ read_verdict s (declarations_from rows values fields 0 n)
+        pub refuse-none : o ≡ false → (Ok tt) ≡ read_verdict s (declarations_from rows values fields 0 n)
         unfolding read_verdict
         refuse-none h = rw (many ∙ ha, duplicate ∙ hb, sym eu ∙ hu, sym eo ∙ h)

@@ -4,74 +4,59 @@
 
 ghost use Rattle.std.specs.Prelude.{◌≡◌, ◌≤◌, length};
 ghost use Rattle.tables.specs.Tables.{declarations_from, tables_of};
-ghost use Rattle.record.specs.Reader.{read_verdict, reading_of, values_room, InTables, OfRecord};
+ghost use Rattle.record.specs.Reader.{read_verdict, values_room, InTables, OfRecord};
 
-use definitions::{Head, Refusal, ScreenedHead, Verdict};
-use places::DeclsRead;
+use definitions::{Head, Refusal};
+use tables::Tables;
 
-// What the reader answers: the head and the number of declarations, or a refusal.
-#[derive(Clone, Copy)]
-pub enum Reading {
-    Pass(Head, usize),
-    Refuse(Refusal),
-}
+// The most bytes of a record.
+const MOST_BYTES: usize = 16384;
 
 // Refusals 3 to 6 of what the tables give, each over the whole record before the next.
-fn read_verdict(rec: &[u8], rows: &[u64], values: &[u64], fields: &[u16], n: usize) -> Verdict
-    ensures { result ≡ read_verdict rec.now (declarations_from rows.now values.now fields.now 0 n) }
+fn read_verdict(t: &Tables, n: usize) -> Result<(), Refusal>
+    ensures { result ≡ read_verdict t.now.source (declarations_from t.now.rows t.now.values t.now.fields 0 n) }
 {
-    if ranges::too_many(rows, n) {
-        return Verdict::Refuse(Refusal::TooMany);
+    if ranges::too_many(t.rows, n) {
+        return Err(Refusal::TooMany);
     }
-    if scope::duplicate_name(rec, rows, n) {
-        return Verdict::Refuse(Refusal::DuplicateName);
+    if scope::duplicate_name(t, n) {
+        return Err(Refusal::DuplicateName);
     }
-    if scope::unknown_name(rec, rows, values, fields, n) {
-        return Verdict::Refuse(Refusal::UnknownName);
+    if scope::unknown_name(t, n) {
+        return Err(Refusal::UnknownName);
     }
-    if ranges::out_of_range(rows, values, fields, n) {
-        return Verdict::Refuse(Refusal::OutOfRange);
+    if ranges::out_of_range(t, n) {
+        return Err(Refusal::OutOfRange);
     }
-    Verdict::Pass
-}
-
-// The answer for a record of the right form without keywords.
-fn judge(rec: &[u8], rows: &[u64], values: &[u64], fields: &[u16], head: Head, n: usize) -> Reading
-    ensures { result ≡ reading_of head n
-        (read_verdict rec.now (declarations_from rows.now values.now fields.now 0 n)) }
-{
-    match read_verdict(rec, rows, values, fields, n) {
-        Verdict::Pass => Reading::Pass(head, n),
-        Verdict::Refuse(why) => Reading::Refuse(why),
-    }
+    Ok(())
 }
 
 // The reader over tables of any length.
-fn read_tables(rec: &[u8], rows: &mut [u64], values: &mut [u64], fields: &mut [u16]) -> Reading
+fn read_tables(
+    rec: &[u8],
+    rows: &mut [u64],
+    values: &mut [u64],
+    fields: &mut [u16],
+) -> Result<(Head, usize), Refusal>
     ensures { InTables rec.now
         (tables_of rec.now rows.old values.old fields.old) result
         (tables_of rec.now rows.new values.new fields.new) }
 {
-    let n = rec.len();
-    if n == 0 {
-        return Reading::Refuse(Refusal::RecordLength);
+    if rec.is_empty() || MOST_BYTES < rec.len() {
+        return Err(Refusal::RecordLength);
     }
-    if 16384 < n {
-        return Reading::Refuse(Refusal::RecordLength);
-    }
-    match readers::head_at(rec, 0) {
-        ScreenedHead::Is(head, p) => match places::fill(rec, p, false, rows, values, fields) {
-            DeclsRead::Is(m) => judge(rec, rows, values, fields, head, m),
-            DeclsRead::Keyword => Reading::Refuse(Refusal::Keyword),
-            DeclsRead::Wrong => Reading::Refuse(Refusal::RecordForm),
-        },
-        ScreenedHead::Keyword(p) => match places::fill(rec, p, true, rows, values, fields) {
-            DeclsRead::Is(_) => Reading::Refuse(Refusal::Keyword),
-            DeclsRead::Keyword => Reading::Refuse(Refusal::Keyword),
-            DeclsRead::Wrong => Reading::Refuse(Refusal::RecordForm),
-        },
-        ScreenedHead::Wrong => Reading::Refuse(Refusal::RecordForm),
-    }
+    let (target, p) = readers::head_at(rec, 0).ok_or(Refusal::RecordForm)?;
+    // where the target is a keyword the form is read first
+    let n = places::fill(rec, p, target.is_none(), rows, values, fields)?;
+    let head = target.ok_or(Refusal::Keyword)?;
+    let t = Tables {
+        source: rec,
+        rows: &*rows,
+        values: &*values,
+        fields: &*fields,
+    };
+    read_verdict(&t, n)?;
+    Ok((head, n))
 }
 
 // The reader, with tables of 32 declarations and 2,048 fields, and room for the values of the record's fields.
@@ -80,7 +65,7 @@ pub fn read_record(
     rows: &mut [u64; 416],
     values: &mut [u64],
     fields: &mut [u16; 2048],
-) -> Reading
+) -> Result<(Head, usize), Refusal>
     requires { values_room rec.now ≤ length values.old }
     ensures { OfRecord rec.now
         (tables_of rec.now rows.old values.old fields.old) result

@@ -1,5 +1,5 @@
-// The number of a refusal (document 01, 'The answer, and why a record is turned back'; 16, 17 and 19: document 02), and the 64-bit number that a record comes
-// to which is turned back ('Modules': the answer times 2^32 plus the length, which is 0). Every program and every exported function numbers refusals by these.
+// The number of a refusal, and the 64-bit number that a record comes to which is turned back: its answer times 2^32 plus the length, which is 0.
+// Every program and every exported function numbers refusals by these.
 #![tactic(auto)]
 
 ghost use Rattle.std.specs.Prelude.{◌≡◌, ◌*◌, ◌≤◌, ◌^◌};
@@ -36,5 +36,5 @@ pub fn number_of(why: Refusal) -> u64
 pub fn turned_back(why: Refusal) -> u64
     ensures { result ≡ number why * 2 ^ 32 }
 {
-    number_of(why) * 4294967296
+    number_of(why) << 32
 }

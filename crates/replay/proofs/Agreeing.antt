@@ -1,4 +1,5 @@
 -- The tests of a call's answer, one after the other (`agreed`). Assumes nothing.
+use Rattle.std.specs.Prelude.{Option, Some, None}
 use Prim.Native.Nat.{ℕ, ◌/◌, ◌%◌, ◌^◌}
 use mathlib.Core.Bool.{Bool, false}
 use mathlib.Core.List.{List}
@@ -6,7 +7,6 @@ use mathlib.Core.Path.{◌≡◌, sym, ◌∙◌}
 use borrow.Author.Tests.{eq-eqb, ne_eqb}
 use lib.ListN.{length, drop}
 use Rattle.definitions.specs.Record.{key_at}
-use Rattle.definitions.specs.declared.Found.{Found}
 use Rattle.replay.specs.Marks.{are_marks, agreed}
 
 module _ (word answer : ℕ) (lines out : List ℕ) {a : ℕ} (ea : a ≡ word / 2 ^ 32) where
@@ -19,12 +19,12 @@ module _ (word answer : ℕ) (lines out : List ℕ) {a : ℕ} (ea : a ≡ word /
     unfolding agreed
     other_length h = rw (sym ea, eq-eqb _ _ ha, sym en, ne_eqb _ _ h, agreed)
 
-    module _ (hn : n ≡ length lines) {f : Found} (ef : f ≡ key_at out 0 lines) where
-      pub other-lines : f ≡ Found.Nothing → false ≡ agreed word answer lines out
+    module _ (hn : n ≡ length lines) {f : Option ℕ} (ef : f ≡ key_at out 0 lines) where
+      pub other-lines : f ≡ None → false ≡ agreed word answer lines out
       unfolding agreed
       other-lines h = rw (sym ea, eq-eqb _ _ ha, sym en, eq-eqb _ _ hn, agreed, sym ef ∙ h)
 
-      pub same_lines : {p : ℕ} → f ≡ Found.At p → {r : Bool} → r ≡ are_marks (drop p out) p → r ≡ agreed word answer lines out
+      pub same_lines : {p : ℕ} → f ≡ Some p → {r : Bool} → r ≡ are_marks (drop p out) p → r ≡ agreed word answer lines out
       unfolding agreed
       same_lines h k = rw (sym ea, eq-eqb _ _ ha, sym en, eq-eqb _ _ hn, agreed, sym ef ∙ h) k
 

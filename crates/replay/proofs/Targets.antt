@@ -1,4 +1,6 @@
 -- The search for the targets of a record, and what the answers of single calls say (`next_target`, `target_answer`, `is_early`). Assumes nothing.
+use Rattle.std.specs.Prelude.{Some, None}
+use Rattle.definitions.specs.Record.{Read}
 use Prim.Native.Nat.{ℕ, ◌+◌, ◌/◌, ◌%◌, ◌^◌, ◌≤◌, ◌<◌}
 use mathlib.Core.Bool.{true, false}
 use mathlib.Core.List.{List, ◌++◌}
@@ -10,23 +12,22 @@ use lib.ListN.{length, drop, drop_of_length-le}
 use lib.Seq.{drop-cons}
 use Rattle.text.specs.Put.{Put}
 use Rattle.text.proofs.Puts.{like}
-use Rattle.definitions.specs.declared.NameRead.{NameRead}
 use Rattle.definitions.specs.declared.Part.{Part}
 use Rattle.replay.specs.Targets.{target_at, next_target, target_answer, is_early}
 
 -- ---- the next target
 
-module _ (s : List ℕ) (p : ℕ) {e : NameRead} (inv : next_target s (drop p s) p ≡ e) where
-  pub targets-end : length s ≤ p → NameRead.Wrong ≡ e
+module _ (s : List ℕ) (p : ℕ) {e : Read Part} (inv : next_target s (drop p s) p ≡ e) where
+  pub targets-end : length s ≤ p → None ≡ e
   unfolding next_target
   targets-end w = rw (drop_of_length-le s w) at inv
 
-  module _ (w : p < length s) {r : NameRead} (k : r ≡ target_at s p) where
-    pub target-here : {name : Part} {q : ℕ} → r ≡ NameRead.Is name q → NameRead.Is name q ≡ e
+  module _ (w : p < length s) {r : Read Part} (k : r ≡ target_at s p) where
+    pub target-here : {name : Part} {q : ℕ} → r ≡ Some (name, q) → Some (name, q) ≡ e
     unfolding next_target
     target-here h = rw (drop-cons s p 0 w, next_target, sym k ∙ h) at inv
 
-    pub target-later : r ≡ NameRead.Wrong → next_target s (drop (p + 1) s) (p + 1) ≡ e
+    pub target-later : r ≡ None → next_target s (drop (p + 1) s) (p + 1) ≡ e
     unfolding next_target
     target-later h = rw (add-one p) (rw (drop-cons s p 0 w, next_target, sym k ∙ h, add-one p) at inv)
 

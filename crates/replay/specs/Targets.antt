@@ -1,22 +1,21 @@
 -- The packets and structs of a record as the program finds them, and what single calls for them say together (document 02, Card 13). Assumes nothing.
-use Rattle.std.specs.Prelude.{Bool, true, false, [], ◌∷◌, ◌++◌, ℕ, ◌+◌, ◌/◌, ◌%◌, ◌^◌, eqb, ltb, length}
+use Rattle.std.specs.Prelude.{Some, None, Bool, true, false, [], ◌∷◌, ◌++◌, ℕ, ◌+◌, ◌/◌, ◌%◌, ◌^◌, eqb, ltb, length}
+use Rattle.definitions.specs.Record.{Read, key_at, name_at, on_found, on_read}
 use Rattle.definitions.specs.Bytes.{Text, text, part}
-use Rattle.definitions.specs.Record.{key_at, name_at, on_found, on_name}
-use Rattle.definitions.specs.declared.NameRead.{NameRead}
 use Rattle.definitions.specs.declared.Part.{Part}
 
 -- the name behind one of two keys at a place
-abbrev pub name_behind : Text → ℕ → Text → Text → NameRead
-name_behind s at key other = on_found (key_at s at key) (on_found (key_at s at other) NameRead.Wrong λ p. name_at s p) λ p. name_at s p
+abbrev pub name_behind : Text → ℕ → Text → Text → Read Part
+name_behind s at key other = on_found (key_at s at key) (on_found (key_at s at other) None λ p. name_at s p) λ p. name_at s p
 
 -- a packet or struct that begins behind the newline at a place
-abbrev pub target_at : Text → ℕ → NameRead
+abbrev pub target_at : Text → ℕ → Read Part
 target_at s at = name_behind s at (text "\ndecl=packet\nname=") (text "\ndecl=struct\nname=")
 
 -- the first one, where `rest` is what s has from `at` on
-unfoldable pub next_target : Text → Text → ℕ → NameRead
-next_target s [] at = NameRead.Wrong
-next_target s (x ∷ rest) at = on_name (target_at s at) (next_target s rest (at + 1)) λ name p. NameRead.Is name p
+unfoldable pub next_target : Text → Text → ℕ → Read Part
+next_target s [] at = None
+next_target s (x ∷ rest) at = on_read (target_at s at) (next_target s rest (at + 1)) λ name p. Some (name, p)
 
 -- the record with the name at `name` in place of the head's, at `head`
 abbrev pub asking : Text → Part → Part → Text

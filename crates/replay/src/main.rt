@@ -11,8 +11,8 @@ ghost use Rattle.text.specs.Put.{Put};
 ghost use Rattle.replay.specs.Marks.{mark_at, marks_from, are_marks, agreed};
 ghost use Rattle.replay.specs.Targets.{name_behind, next_target, asking, target_answer, is_early};
 
-use cases::Next;
-use definitions::{Found, NameRead, Part};
+use cases::Case;
+use definitions::Part;
 use std::io;
 use std::io::{Read, Write};
 
@@ -29,10 +29,8 @@ fn mark(i: usize) -> u8
 fn mark_all(out: &mut [u8])
     ensures { out.new ≡ marks_from 0 (length out.old) }
 {
-    let mut i = 0;
-    while i < out.len() {
+    for i in 0..out.len() {
         out[i] = mark(i);
-        i += 1;
     }
 }
 
@@ -41,12 +39,10 @@ fn mark_all(out: &mut [u8])
 fn are_marks(out: &[u8], from: usize) -> bool
     ensures { result ≡ are_marks (drop from out.now) from }
 {
-    let mut i = from;
-    while i < out.len() {
+    for i in from..out.len() {
         if out[i] != mark(i) {
             return false;
         }
-        i += 1;
     }
     true
 }
@@ -63,15 +59,15 @@ fn agrees(word: u64, answer: u64, lines: &[u8], out: &[u8]) -> bool
         return false;
     }
     match names::key_at(out, 0, lines) {
-        Found::At(p) => are_marks(out, p),
-        Found::Nothing => false,
+        Some(p) => are_marks(out, p),
+        None => false,
     }
 }
 
 // ---- a call
 
 // What is asked of a record: the lines of its target, or the sections of all.
-#[derive(Clone, Copy)]
+#[derive(Clone, Copy, Debug, PartialEq, Eq)]
 enum Asked {
     One,
     All,
@@ -131,35 +127,32 @@ fn is_given_in_every_room(
 // ---- single calls, joined
 
 // The name behind one of two keys at a place.
-fn name_behind(rec: &[u8], at: usize, key: &[u8], other: &[u8]) -> NameRead
+fn name_behind(rec: &[u8], at: usize, key: &[u8], other: &[u8]) -> definitions::Read<Part>
     ensures { result ≡ name_behind rec.now at key.now other.now }
 {
-    match names::key_at(rec, at, key) {
-        Found::At(p) => names::name_at(rec, p),
-        Found::Nothing => match names::key_at(rec, at, other) {
-            Found::At(p) => names::name_at(rec, p),
-            Found::Nothing => NameRead::Wrong,
-        },
-    }
+    let p = match names::key_at(rec, at, key) {
+        Some(p) => p,
+        None => names::key_at(rec, at, other)?,
+    };
+    names::name_at(rec, p)
 }
 
 // The name of the first packet or struct that begins behind a place. No other line of a record begins with `decl=`.
 #[tactic(auto, using(crate::proofs::Targets::targets))]
-fn next_target(rec: &[u8], at: usize) -> NameRead
+fn next_target(rec: &[u8], at: usize) -> definitions::Read<Part>
     ensures { result ≡ next_target rec.now (drop at rec.now) at }
 {
-    let mut p = at;
-    while p < rec.len() {
-        match name_behind(rec, p, b"\ndecl=packet\nname=", b"\ndecl=struct\nname=") {
-            NameRead::Is(name, end) => {
-                return NameRead::Is(name, end);
-            }
-            NameRead::Wrong => {
-                p += 1;
-            }
+    for p in at..rec.len() {
+        if let Some((name, end)) = name_behind(
+            rec,
+            p,
+            b"\ndecl=packet\nname=",
+            b"\ndecl=struct\nname=",
+        ) {
+            return Some((name, end));
         }
     }
-    NameRead::Wrong
+    None
 }
 
 // The record with another name of it in place of the head's.
@@ -207,7 +200,7 @@ fn target_answer(word: u64) -> u64
 }
 
 // The answer up to a target, the end of the sections, also past the buffer, how many there are, and whether a record was too long to be asked.
-#[derive(Clone, Copy)]
+#[derive(Clone, Copy, Debug, PartialEq, Eq)]
 struct Joined {
     answer: u64,
     at: usize,
@@ -239,9 +232,8 @@ fn join(
     if 16384 < n {
         return Joined {
             answer: 0,
-            at: j.at,
-            sections: j.sections,
             too_long: true,
+            ..j
         };
     }
     let word = lowering::lower(console::front(asking, n), out);
@@ -249,9 +241,8 @@ fn join(
     if answer != 0 {
         return Joined {
             answer,
-            at: j.at,
-            sections: j.sections,
             too_long: false,
+            ..j
         };
     }
     let lines = console::front(out, console::lines_length(word));
@@ -275,24 +266,15 @@ fn join_all(
 ) -> Joined {
     let mut j = begun(0, sections);
     let mut at = 0;
-    let mut turns: u64 = 33;
-    while turns > 0 {
-        turns -= 1;
-        match next_target(rec, at) {
-            NameRead::Wrong => {
-                return j;
-            }
-            NameRead::Is(name, _) => {
-                j = join(rec, asking, out, whole, j, head, name);
-                if j.answer != 0 {
-                    return j;
-                }
-                if j.too_long {
-                    return j;
-                }
-                at = name.end;
-            }
+    for _ in 0..33 {
+        let Some((name, _)) = next_target(rec, at) else {
+            return j;
+        };
+        j = join(rec, asking, out, whole, j, head, name);
+        if j.answer != 0 || j.too_long {
+            return j;
         }
+        at = name.end;
     }
     j
 }
@@ -326,8 +308,8 @@ fn join_calls(
         return begun(answer, sections);
     }
     match name_behind(rec, 0, b"endian=little\ntarget=", b"endian=big\ntarget=") {
-        NameRead::Is(head, _) => join_all(rec, asking, out, whole, sections, head),
-        NameRead::Wrong => begun(answer, sections),
+        Some((head, _)) => join_all(rec, asking, out, whole, sections, head),
+        None => begun(answer, sections),
     }
 }
 
@@ -349,7 +331,7 @@ fn is_joined(rec: &[u8], out: &mut [u8], whole: &[u8], j: Joined) -> bool {
 
 // ---- the stream
 
-#[derive(Clone, Copy)]
+#[derive(Clone, Copy, Debug, PartialEq, Eq)]
 struct Tally {
     cases: u64,
     accepted: u64,
@@ -405,21 +387,18 @@ fn replay_case<W: Write>(
     out: &mut [u8],
     whole: &mut [u8],
     t: Tally,
-    answer: u64,
-    record: Part,
-    lines: Part,
+    case: Case,
 ) -> io::Result<Tally> {
-    let rec = names::part(window, record);
-    let j = join_calls(rec, asking, out, whole, t.sections, answer);
-    if !is_given_in_every_room(rec, out, Asked::One, answer, names::part(window, lines)) {
-        return tallied(to, t, answer, j, false);
-    }
-    let given = is_joined(rec, out, whole, j);
-    tallied(to, t, answer, j, given)
+    let rec = names::part(window, case.rec);
+    let lines = names::part(window, case.lines);
+    let j = join_calls(rec, asking, out, whole, t.sections, case.answer);
+    let agreed = is_given_in_every_room(rec, out, Asked::One, case.answer, lines)
+        && is_joined(rec, out, whole, j);
+    tallied(to, t, case.answer, j, agreed)
 }
 
 // Replays the stream to its end, or to where it is no stream of cases, which a line `broken=N` says, behind the Nth case. A proved loop has
-// to end, so its turns are counted down from a number that no run uses up.
+// to end, so it has so many turns that no run uses them up.
 fn replay<R: Read, W: Write>(
     from: &mut R,
     to: &mut W,
@@ -437,24 +416,17 @@ fn replay<R: Read, W: Write>(
     };
     let mut at = 0;
     let mut end = 0;
-    let mut turns = u64::MAX;
-    while turns > 0 {
-        turns -= 1;
+    for _ in 0..u64::MAX {
         match cases::next_case(from, window, at, end) {
-            Next::Case {
-                answer,
-                record,
-                lines,
-                end: filled,
-            } => {
-                t = replay_case(to, window, asking, out, whole, t, answer, record, lines)?;
-                at = lines.end;
+            Ok(Some((case, filled))) => {
+                t = replay_case(to, window, asking, out, whole, t, case)?;
+                at = case.lines.end;
                 end = filled;
             }
-            Next::End => {
+            Ok(None) => {
                 return Ok(t);
             }
-            Next::Broken => {
+            Err(_) => {
                 console::print_number(to, b"broken", t.cases)?;
                 return Ok(t);
             }

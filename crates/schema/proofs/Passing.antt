@@ -1,5 +1,8 @@
 -- The pass over the declarations: the entries so far, followed by those of the declarations left, are all of `Schema`, and none so far is large.
 -- Assumes nothing.
+use Rattle.std.proofs.lemmas.Option.{none-some, same_Some}
+use Rattle.std.specs.Prelude.{Option, Some, None, Ok, Err}
+use Rattle.definitions.specs.declared.Refusal.{Refusal}
 use Prim.Native.Nat.{ℕ, zero, suc, ◌+◌, ◌*◌, ◌-◌, ◌≤◌, ◌<◌}
 use mathlib.Core.Bool.{Bool, true, false, ◌||◌}
 use mathlib.Core.List.{List, [], ◌∷◌, ◌++◌, append_assoc}
@@ -11,7 +14,7 @@ use lib.ListN.{length}
 use Rattle.definitions.specs.Bytes.{any}
 use Rattle.definitions.specs.Record.{Declaration}
 use Rattle.definitions.specs.Sizes.{Schema, Entry, Row, annotate_from, new_schema}
-use Rattle.definitions.specs.Refusals.{large, large_entry, large_row, large_field, large_size, static_sum, too_large}
+use Rattle.definitions.specs.Refusals.{refuse_if, large, large_entry, large_row, large_field, large_size, static_sum, too_large}
 use Rattle.definitions.specs.Tables.{encode, decode}
 use Rattle.definitions.specs.declared.Size.{Size}
 use Rattle.definitions.specs.declared.Decl.{Decl}
@@ -21,7 +24,7 @@ use Rattle.bits.specs.Capped.{capped}
 use Rattle.bits.proofs.Booleans.{or-none, or_assoc, or_left, or_right}
 use Rattle.bits.proofs.Caps.{capped-fine}
 use Rattle.bits.proofs.Coding.{coded}
-use Rattle.schema.specs.Entries.{entry_sizes, entry_in, entries_from, put_row, next_entry, sized_rows, Sized}
+use Rattle.schema.specs.Entries.{unless, entry_sizes, fine_sizes, entry_in, entries_from, put_row, next_entry, sized_rows, Sized}
 use Rattle.schema.specs.declared.RowSizes.{RowSizes}
 use Rattle.schema.proofs.Keeping.{entries-keep, entry-put}
 
@@ -44,6 +47,16 @@ row_fine e h =
     let two : (large_size e.row.decl_size || large_size e.row.parent_size) ≡ false =
     or_left (large_size e.row.decl_size || large_size e.row.parent_size) _ three in
     (or_left _ _ two, (or_right (large_size e.row.decl_size) _ two, or_right (large_size e.row.decl_size || large_size e.row.parent_size) _ three))
+
+-- ---- what a row or none says of the test
+
+none-large : (b : Bool) (w : RowSizes) → None ≡ unless b w → true ≡ b
+none-large true w e = refl
+none-large false w e = absurd (none-some w e)
+
+some-fine : (b : Bool) (w u : RowSizes) → Some u ≡ unless b w → (false ≡ b) × (u ≡ w)
+some-fine true w u e = absurd (none-some u (sym e))
+some-fine false w u e = (refl, same_Some u w e)
 
 -- ---- rows and entries
 
@@ -94,10 +107,12 @@ append-nil [] = refl
 append-nil (e ∷ es) = ap (λ (l : Schema). e ∷ l) (append-nil es)
 
 module _ (s rows₀ v f : List ℕ) (m : ℕ) (rows : List ℕ) (i : ℕ) (g : Going s rows₀ v f m rows i) where
-  pub going_end : m ≤ i → Sized s rows₀ v f m rows false
+  pub going_end : m ≤ i → Sized s rows₀ v f m rows (Ok tt)
   unfolding declarations_from annotate_from large sized_rows
   going_end h = record {
-    answer = sym (ap (any large_entry) (sym whole) ∙ ap (λ (k : ℕ). any large_entry (entries_from s rows v f 0 k)) (let z : m ≡ i = omega arith in z) ∙ g.fine);
+    answer =
+        ap (λ (b : Bool). refuse_if b Refusal.TooLarge (Ok tt))
+        (sym (ap (any large_entry) (sym whole) ∙ ap (λ (k : ℕ). any large_entry (entries_from s rows v f 0 k)) (let z : m ≡ i = omega arith in z) ∙ g.fine));
     tables = λ k. whole;
     left = ap (sized_rows s rows v f i) (let z : 0 ≡ m - i = omega arith in z) ∙ g.table;
   }
@@ -110,7 +125,7 @@ module _ (s rows₀ v f : List ℕ) (m : ℕ) (rows : List ℕ) (i : ℕ) (g : G
           (let z : 0 ≡ m - i = omega arith in z)
           ∙ g.parts
 
-  module _ (h : i < m) {r : RowSizes} (er : r ≡ entry_sizes (next_entry s rows v f i)) where
+  module _ (h : i < m) {r : Option RowSizes} (er : r ≡ fine_sizes (next_entry s rows v f i)) where
     sofar : Schema
     sofar = entries_from s rows v f 0 i
 
@@ -139,34 +154,37 @@ module _ (s rows₀ v f : List ℕ) (m : ℕ) (rows : List ℕ) (i : ℕ) (g : G
         ap (λ (b : Bool). elim b [ true ↦ rows | false ↦ sized_rows s (put_row rows i (entry_sizes e)) v f (i + 1) (m - (i + 1)) ]) eb
         ∙ ap (sized_rows s rows v f i) more ∙ g.table
 
-    is-large : {b : Bool} → r.large ≡ b → b ≡ large_entry e
-    unfolding e
-    is-large h = sym h ∙ ap (λ (r : RowSizes). r.large) er
-
-    pub going-large : r.large ≡ true → Sized s rows₀ v f m rows true
+    pub going-large : r ≡ None → Sized s rows₀ v f m rows (Err Refusal.TooLarge)
     unfolding sofar earlier e rest large
     going-large hr = record {
-      answer = met;
+      answer = ap (λ (b : Bool). refuse_if b Refusal.TooLarge (Ok tt)) met;
       tables = λ k. absurd (let q : ◌≡◌ {A = Bool} true false = met ∙ k in let v : ◌≡◌ {A = ℕ} 0 1 = cc in omega arith);
-      left = split-table (is-large hr);
+      left = split-table is-large;
     }
       where
+        is-large : true ≡ large_entry e
+        is-large = none-large (large_entry (next_entry s rows v f i)) (entry_sizes (next_entry s rows v f i)) (sym hr ∙ er)
+
         met : true ≡ large (new_schema s (declarations_from rows₀ v f 0 m))
         met =
-            ap (λ (b : Bool). b || any large_entry (annotate_from s (earlier ++ (e.row ∷ [])) rest)) (is-large hr)
+            ap (λ (b : Bool). b || any large_entry (annotate_from s (earlier ++ (e.row ∷ [])) rest)) is-large
             ∙ ap (λ (b : Bool). b || any large_entry (e ∷ annotate_from s (earlier ++ (e.row ∷ [])) rest)) (sym g.fine)
             ∙ sym (any_append sofar (e ∷ annotate_from s (earlier ++ (e.row ∷ [])) rest))
             ∙ ap (any large_entry) split
 
-    module _ (hr : r.large ≡ false) where
+    module _ {w : RowSizes} (hr : r ≡ Some w) where
       put : List ℕ
-      put = put_row rows i r
+      put = put_row rows i w
+
+      is-fine : (false ≡ large_entry e) × (w ≡ entry_sizes e)
+      unfolding e
+      is-fine = some-fine (large_entry (next_entry s rows v f i)) (entry_sizes (next_entry s rows v f i)) w (sym hr ∙ er)
 
       within : i * 13 + 12 < length rows
       within = omega (arith, g.room, g.long)
 
       not-large : large_entry e ≡ false
-      not-large = sym (is-large hr)
+      not-large = sym is-fine.0
 
       here : (z x : Size) → z ≡ capped x → large_size x ≡ false → decode (encode z) ≡ x
       here z x ez hx = ap (λ (z : Size). decode (encode z)) (ez ∙ capped-fine x hx) ∙ coded x hx
@@ -174,11 +192,11 @@ module _ (s rows₀ v f : List ℕ) (m : ℕ) (rows : List ℕ) (i : ℕ) (g : G
       row_is : row_in put i ≡ e.row
       unfolding put e
       row_is =
-          sized_row rows i (encode r.own) (encode r.parent) (encode r.payload) within
+          sized_row rows i (encode w.own) (encode w.parent) (encode w.payload) within
           ∙ same_row
-          (here r.own e.row.decl_size (ap (λ (r : RowSizes). r.own) er) (row_fine e not-large).0)
-          (here r.parent e.row.parent_size (ap (λ (r : RowSizes). r.parent) er) (row_fine e not-large).1.0)
-          (here r.payload e.row.payload_size (ap (λ (r : RowSizes). r.payload) er) (row_fine e not-large).1.1)
+          (here w.own e.row.decl_size (ap (λ (w : RowSizes). w.own) is-fine.1) (row_fine e not-large).0)
+          (here w.parent e.row.parent_size (ap (λ (w : RowSizes). w.parent) is-fine.1) (row_fine e not-large).1.0)
+          (here w.payload e.row.payload_size (ap (λ (w : RowSizes). w.payload) is-fine.1) (row_fine e not-large).1.1)
 
       rows_are : rows_from put 0 (i + 1) ≡ earlier ++ (e.row ∷ [])
       unfolding put earlier
@@ -201,7 +219,7 @@ module _ (s rows₀ v f : List ℕ) (m : ℕ) (rows : List ℕ) (i : ℕ) (g : G
       going-put = record {
         small = omega arith;
         room = g.room;
-        long = length-sized rows i (encode r.own) (encode r.parent) (encode r.payload) ∙ g.long;
+        long = length-sized rows i (encode w.own) (encode w.parent) (encode w.payload) ∙ g.long;
         parts =
             ap (λ (l : Schema). l ++ annotate_from s (rows_from put 0 (i + 1)) (declarations_from put v f (i + 1) (m - (i + 1)))) entries-are
             ∙ ap (λ (l : List Row). (sofar ++ (e ∷ [])) ++ annotate_from s l (declarations_from put v f (i + 1) (m - (i + 1)))) rows_are
@@ -211,9 +229,9 @@ module _ (s rows₀ v f : List ℕ) (m : ℕ) (rows : List ℕ) (i : ℕ) (g : G
         fine =
             ap (any large_entry) entries-are ∙ any_append sofar (e ∷ [])
             ∙ ap (λ (b : Bool). b || any large_entry (e ∷ [])) g.fine ∙ sym (or-none (large_entry e)) ∙ not-large;
-        table = ap (λ (r : RowSizes). sized_rows s (put_row rows i r) v f (i + 1) (m - (i + 1))) er ∙ split-table (is-large hr);
+        table = ap (λ (w : RowSizes). sized_rows s (put_row rows i w) v f (i + 1) (m - (i + 1))) is-fine.1 ∙ split-table is-fine.0;
       }
 
-      pub going-turn : {rows' : List ℕ} → rows' ≡ put_row rows i r → Going s rows₀ v f m rows' (i + 1)
+      pub going-turn : {rows' : List ℕ} → rows' ≡ put_row rows i w → Going s rows₀ v f m rows' (i + 1)
       unfolding put
       going-turn e = subst (λ (l : List ℕ). Going s rows₀ v f m l (i + 1)) (sym e) going-put

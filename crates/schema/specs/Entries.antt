@@ -1,10 +1,11 @@
 -- What the code keeps of an entry of `Schema`, the entries that the tables of a record give back, for any tables, and the table that the pass leaves.
 -- Assumes nothing.
-use Rattle.std.specs.Prelude.{Bool, true, false, ◌||◌, List, [], ◌∷◌, ◌≡◌, ℕ, zero, suc, ◌+◌}
+use Rattle.std.specs.Prelude.{Option, Some, None, Ok, Bool, true, false, ◌||◌, List, [], ◌∷◌, ◌≡◌, ℕ, zero, suc, ◌+◌}
 use Rattle.definitions.specs.Bytes.{Text}
 use Rattle.definitions.specs.Record.{Declaration}
 use Rattle.definitions.specs.Sizes.{Schema, Entry, Row, add_size, decl_size_of, payload_size_of, annotate_fields, annotate_decl, new_schema}
-use Rattle.definitions.specs.Refusals.{large_size, too_large, large_entry, large}
+use Rattle.definitions.specs.declared.Refusal.{Refusal}
+use Rattle.definitions.specs.Refusals.{Verdict, refuse_if, large_size, too_large, large_entry, large}
 use Rattle.definitions.specs.Tables.{encode}
 use Rattle.definitions.specs.declared.DeclDesc.{DeclDesc}
 use Rattle.definitions.specs.declared.Size.{Size}
@@ -19,26 +20,23 @@ abbrev pub large_sizes : Size → Size → Size → Bool
 large_sizes own parent payload =
     large_size own || large_size parent || large_size payload || large_size (add_size (add_size own parent) payload)
 
--- of what the fields and the parent come to
-abbrev pub row_sizes : DeclDesc → FieldSums → Size → RowSizes
-row_sizes desc sums above =
-    record {
-      large =
-          sums.large || large_sizes (capped (decl_size_of desc sums.sum)) (capped above) (payload_size_of desc sums.payload) || too_large sums.bits;
-      own = capped (decl_size_of desc sums.sum);
-      parent = capped above;
-      payload = payload_size_of desc sums.payload;
-    }
+-- a row, and none where 7 is met
+abbrev pub unless : Bool → RowSizes → Option RowSizes
+unless true row = None
+unless false row = Some row
 
--- 7 is met, and the row, capped
+-- of what the fields and the parent come to
+abbrev pub row_sizes : DeclDesc → FieldSums → Size → Option RowSizes
+row_sizes desc sums above =
+    unless (sums.large || large_sizes (capped (decl_size_of desc sums.sum)) (capped above) (payload_size_of desc sums.payload) || too_large sums.bits)
+    (record { own = capped (decl_size_of desc sums.sum); parent = capped above; payload = payload_size_of desc sums.payload })
+
+-- the row, capped
 abbrev pub entry_sizes : Entry → RowSizes
-entry_sizes e =
-    record {
-      large = large_entry e;
-      own = capped e.row.decl_size;
-      parent = capped e.row.parent_size;
-      payload = capped e.row.payload_size;
-    }
+entry_sizes e = record { own = capped e.row.decl_size; parent = capped e.row.parent_size; payload = capped e.row.payload_size }
+
+abbrev pub fine_sizes : Entry → Option RowSizes
+fine_sizes e = unless (large_entry e) (entry_sizes e)
 
 -- ---- the entries that the tables give
 
@@ -74,8 +72,8 @@ sized_rows s rows values fields i (suc m) = elim (large_entry (next_entry s rows
 ]
 
 -- the answer is that of 7 over the whole record; where 7 is not met the tables give all of `Schema`, entry by entry; and the table that is left
-pub record Sized (s : Text) (rows values fields : List ℕ) (n : ℕ) (rows' : List ℕ) (r : Bool) : Type 0 where
-  pub answer : r ≡ large (new_schema s (declarations_from rows values fields 0 n))
+pub record Sized (s : Text) (rows values fields : List ℕ) (n : ℕ) (rows' : List ℕ) (r : Verdict) : Type 0 where
+  pub answer : r ≡ refuse_if (large (new_schema s (declarations_from rows values fields 0 n))) Refusal.TooLarge (Ok tt)
   pub tables : large (new_schema s (declarations_from rows values fields 0 n)) ≡ false
       → entries_from s rows' values fields 0 n ≡ new_schema s (declarations_from rows values fields 0 n)
   pub left : rows' ≡ sized_rows s rows values fields 0 n

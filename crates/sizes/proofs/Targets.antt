@@ -1,5 +1,6 @@
 -- Refusal 9: the first declaration that is the target.
 -- Assumes nothing.
+use Rattle.std.specs.Prelude.{Option, Some, None}
 use Prim.Native.Nat.{ℕ, zero, suc, ◌+◌, ◌-◌, ◌≤◌, ◌<◌}
 use mathlib.Core.Bool.{Bool, true, false, ◌&&◌, ◌||◌}
 use mathlib.Core.List.{List, [], ◌∷◌}
@@ -12,8 +13,6 @@ use Rattle.definitions.specs.Sizes.{Schema, same_name}
 use Rattle.definitions.specs.Refusals.{is_frame, is_target}
 use Rattle.definitions.specs.FieldParser.{Outcome, refused}
 use Rattle.definitions.specs.Answer.{lower_target, lower_in}
-use Rattle.definitions.specs.declared.Decl.{Decl}
-use Rattle.definitions.specs.declared.Found.{Found}
 use Rattle.definitions.specs.declared.Head.{Head}
 use Rattle.definitions.specs.declared.Part.{Part}
 use Rattle.definitions.specs.declared.Refusal.{Refusal}
@@ -22,10 +21,6 @@ use Rattle.schema.specs.Entries.{entry_in, entries_from}
 use Rattle.sizes.specs.Answers.{target_from}
 use Rattle.tables.proofs.Walks.{from_end, from_more}
 use Rattle.sizes.proofs.WholeBytes.{entries}
-
-pub target-as : (s : Text) (name : Part) (d : Decl) {a : Bool} → a ≡ same_name s d.id name → {b : Bool} → b ≡ is_frame d.desc → {r : Bool} → r ≡ (a && b)
-    → r ≡ (same_name s d.id name && is_frame d.desc)
-target-as s name d {a} ea {b} eb er = er ∙ ap (λ (a : Bool). a && b) ea ∙ ap (λ (b : Bool). same_name s d.id name && b) eb
 
 -- none of the first i is the target
 pub record Looking (s rows : List ℕ) (name : Part) (n i : ℕ) : Type 0 where
@@ -39,22 +34,22 @@ looking-start s rows name n = record {
 }
 
 module _ (s rows : List ℕ) (name : Part) (n i : ℕ) (l : Looking s rows name n i) where
-  pub looking-end : n ≤ i → (v f : List ℕ) → Found.Nothing ≡ target_from s name 0 (entries_from s rows v f 0 n)
+  pub looking-end : n ≤ i → (v f : List ℕ) → None ≡ target_from s name 0 (entries_from s rows v f 0 n)
   unfolding target_from
   looking-end w v f = ap (target_from s name i) (sym (from_end (entries s rows v f) n i w)) ∙ l.left v f
 
-  module _ (w : i < n) {d : Decl} (ed : d ≡ decl_here rows i) {b : Bool} (eb : b ≡ (same_name s d.id name && is_frame d.desc)) where
+  module _ (w : i < n) {b : Bool} (eb : b ≡ (same_name s (decl_here rows i).id name && is_frame (decl_here rows i).desc)) where
     -- the test of this entry, and those behind
     split : {t : Bool} → b ≡ t → (v f : List ℕ)
-        → ◌≡◌ {A = Found} (elim t [ true ↦ Found.At i | false ↦ target_from s name (i + 1) (entries_from s rows v f (i + 1) (n - (i + 1))) ])
+        → ◌≡◌ {A = Option ℕ} (elim t [ true ↦ Some i | false ↦ target_from s name (i + 1) (entries_from s rows v f (i + 1) (n - (i + 1))) ])
         (target_from s name 0 (entries_from s rows v f 0 n))
     unfolding target_from
     split {t} ht v f =
-        ap (λ (t : Bool). elim t [ true ↦ Found.At i | false ↦ target_from s name (i + 1) (entries_from s rows v f (i + 1) (n - (i + 1))) ])
-        (sym ht ∙ eb ∙ ap (λ (d : Decl). same_name s d.id name && is_frame d.desc) ed)
+        ap (λ (t : Bool). elim t [ true ↦ Some i | false ↦ target_from s name (i + 1) (entries_from s rows v f (i + 1) (n - (i + 1))) ])
+        (sym ht ∙ eb)
         ∙ ap (target_from s name i) (sym (from_more (entries s rows v f) n i w)) ∙ l.left v f
 
-    pub looking-found : b ≡ true → (v f : List ℕ) → Found.At i ≡ target_from s name 0 (entries_from s rows v f 0 n)
+    pub looking-found : b ≡ true → (v f : List ℕ) → Some i ≡ target_from s name 0 (entries_from s rows v f 0 n)
     looking-found hb = split hb
 
     pub looking-turn : b ≡ false → Looking s rows name n (i + 1)
@@ -68,7 +63,7 @@ found-any s h i [] = refl
 found-any s h i (e ∷ es) = by (is_target s h e) (found-any s h (i + 1) es)
   where
     by : (b : Bool) → is_found (target_from s h.target (i + 1) es) ≡ any (is_target s h) es
-        → is_found (elim b [ true ↦ Found.At i | false ↦ target_from s h.target (i + 1) es ]) ≡ (b || any (is_target s h) es)
+        → is_found (elim b [ true ↦ Some i | false ↦ target_from s h.target (i + 1) es ]) ≡ (b || any (is_target s h) es)
     by true k = refl
     by false k = k
 
@@ -84,7 +79,7 @@ lower-target s h rows v f i (suc m) = by (is_target s h (entry_in s rows v f i))
         → lower_in s h (entries_from s rows v f (i + 1) m)
         ≡ on_found (target_from s h.target (i + 1) (entries_from s rows v f (i + 1) m)) (refused Refusal.NoTarget) (λ k. lower_target s h (entry_in s rows v f k))
         → ◌≡◌ {A = Outcome} (elim b [ true ↦ lower_target s h (entry_in s rows v f i) | false ↦ lower_in s h (entries_from s rows v f (i + 1) m) ])
-        (on_found (elim b [ true ↦ Found.At i | false ↦ target_from s h.target (i + 1) (entries_from s rows v f (i + 1) m) ])
+        (on_found (elim b [ true ↦ Some i | false ↦ target_from s h.target (i + 1) (entries_from s rows v f (i + 1) m) ])
         (refused Refusal.NoTarget) (λ k. lower_target s h (entry_in s rows v f k)))
     by true k = refl
     by false k = k

@@ -1,5 +1,7 @@
 -- The pieces of a text (`parted`), by the loops over its bytes: where a piece ends, how many pieces there are, and the k-th.
 -- Assumes nothing.
+use Rattle.std.specs.Prelude.{cond}
+use Rattle.std.specs.List.{filter}
 use Prim.Native.Nat.{ℕ, zero, suc, ◌+◌, ◌-◌, ◌≤◌, ◌<◌}
 use mathlib.Core.Bool.{Bool, true, false}
 use mathlib.Core.List.{List, [], ◌∷◌}
@@ -77,20 +79,18 @@ module _ (c : ℕ) (s : Text) (p : ℕ) {e : ℕ} (inv : p + up_to c (drop p s) 
     unfolding up_to
     end_later h = omega (arith, ap (λ (k : ℕ). up_to c (drop k s)) (add-one p), (rw (drop-cons s p 0 w, ne_eqb _ _ h, up_to) at inv))
 
--- ---- how many pieces there are: n were counted, and the one at hand
+-- ---- how many pieces there are: one more than the separators
 
-module _ (c : ℕ) (s : Text) (p n : ℕ) {e : ℕ} (inv : n + length (parted c (drop p s)) ≡ suc e) where
-  pub count-end : length s ≤ p → n ≡ e
-  unfolding parted
-  count-end w = omega (arith, (rw (drop_of_length-le s w) at inv))
-
-  module _ (w : p < length s) (m : ℕ) where
-    pub count-separator : get_or s p 0 ≡ c → m ≡ n + 1 → m + length (parted c (drop (p + 1) s)) ≡ suc e
-    count-separator h k = omega (arith, ap length (at-separator c s p w h))
-
-    pub count-other : (get_or s p 0 ≡ c → ⊥) → m ≡ n → m + length (parted c (drop (p + 1) s)) ≡ suc e
-    count-other h k =
-        omega (arith, ap length (at_other c s p w h), many-onto c (get_or s p 0) (parted c (drop (p + 1) s)) (some-piece c (drop (p + 1) s)))
+pub count-pieces : (c : ℕ) (s : Text) → length (filter (λ x. eqb x c) s) + 1 ≡ length (parted c s)
+unfolding parted
+count-pieces c [] = refl
+count-pieces c (x ∷ s) = by (eqb x c) (count-pieces c s)
+  where
+    by : (b : Bool) → length (filter (λ x. eqb x c) s) + 1 ≡ length (parted c s)
+        → length (cond b (x ∷ filter (λ x. eqb x c) s) (filter (λ x. eqb x c) s)) + 1
+        ≡ length {A = Text} (elim b [ true ↦ [] ∷ parted c s | false ↦ onto x (parted c s) ])
+    by true e = omega (arith, e)
+    by false e = omega (arith, e, many-onto c x (parted c s) (some-piece c s))
 
 -- ---- the k-th piece: so many are left to pass
 

@@ -9,7 +9,7 @@ ghost use Rattle.slots.specs.Pieces.{slots, possibilities, up_to};
 ghost use Rattle.slots.specs.Draws.{Draws};
 
 // The state behind what was drawn, and the end of what was written.
-#[derive(Clone, Copy)]
+#[derive(Clone, Copy, Debug, PartialEq, Eq)]
 pub struct Drawn {
     pub state: u32,
     pub end: usize,
@@ -39,29 +39,19 @@ pub fn choice(state: u32, n: usize) -> usize
 fn piece_end(s: &[u8], at: usize, separator: u8) -> usize
     ensures { result ≡ at + up_to separator (drop at s.now) }
 {
-    let mut p = at;
-    while p < s.len() {
+    for p in at..s.len() {
         if s[p] == separator {
             return p;
         }
-        p += 1;
     }
-    p
+    at.max(s.len())
 }
 
 // How many possibilities a slot has: one more than the bytes `|`.
 fn count_possibilities(slot: &[u8]) -> usize
     ensures { result ≡ length (possibilities slot.now) }
 {
-    let mut n = 1;
-    let mut p = 0;
-    while p < slot.len() {
-        if slot[p] == 124 {
-            n += 1;
-        }
-        p += 1;
-    }
-    n
+    slot.iter().filter(|&&b| b == b'|').count() + 1
 }
 
 // The k-th possibility of a slot; nothing where there are fewer.
@@ -69,16 +59,13 @@ fn possibility(slot: &[u8], k: usize) -> &[u8]
     ensures { result.now ≡ get_or (possibilities slot.now) k [] }
 {
     let mut skip = k;
-    let mut p = 0;
-    while p < slot.len() {
+    for p in 0..slot.len() {
         if skip == 0 {
-            let e = piece_end(slot, p, 124);
-            return &slot[p..e];
+            return &slot[p..piece_end(slot, p, b'|')];
         }
-        if slot[p] == 124 {
+        if slot[p] == b'|' {
             skip -= 1;
         }
-        p += 1;
     }
     &slot[..0]
 }
@@ -101,7 +88,7 @@ pub fn put_slots(family: &[u8], state: u32, out: &mut [u8]) -> Drawn
     let mut at = 0;
     let mut p = 0;
     loop {
-        let e = piece_end(family, p, 59);
+        let e = piece_end(family, p, b';');
         s = next_state(s);
         at = put_slot(&family[p..e], s, out, at);
         if family.len() <= e {

@@ -1,5 +1,6 @@
 -- What is read back is what was written: a field and a declaration, each at its entry, and every other entry as it was.
 -- Assumes nothing.
+use Rattle.std.specs.Prelude.{Option, Some, None}
 use Prim.Native.Nat.{ℕ, zero, suc, ◌+◌, ◌*◌, ◌/◌, ◌≤◌, ◌<◌}
 use mathlib.Core.Bool.{Bool, true, false}
 use mathlib.Core.List.{List, [], ◌∷◌, ◌++◌, append_assoc}
@@ -12,14 +13,11 @@ use borrow.Author.Tests.{ltb-true, ltb-false}
 use lib.Dec.{ltb}
 use lib.Seq.{sets, get_or-set_same, get_or-set_other, get_or-append-add, get_or-append_seam}
 use Rattle.definitions.specs.declared.Part.{Part}
-use Rattle.definitions.specs.declared.MaybePart.{MaybePart}
-use Rattle.definitions.specs.declared.MaybeNumber.{MaybeNumber}
 use Rattle.definitions.specs.declared.Modifier.{Modifier}
 use Rattle.definitions.specs.declared.FieldDesc.{FieldDesc}
-use Rattle.definitions.specs.declared.Cond.{Cond}
+use Rattle.definitions.specs.declared.Condition.{Condition}
 use Rattle.definitions.specs.declared.Field.{Field}
 use Rattle.definitions.specs.declared.Size.{Size}
-use Rattle.definitions.specs.declared.MaybeSize.{MaybeSize}
 use Rattle.definitions.specs.declared.DeclDesc.{DeclDesc}
 use Rattle.definitions.specs.declared.Decl.{Decl}
 use Rattle.tables.specs.Words.{bit_word, part_words, maybe_words, maybe_part_words, modifier_words, desc_words, cond_words, field_words}
@@ -50,10 +48,10 @@ get_d-written l i (v ∷ vs) (suc k) h b =
 
 -- ---- what may be absent, by its numbers
 
-maybe-again : (m : MaybeNumber) → maybe_of (get_or (maybe_words m) 0 0) (get_or (maybe_words m) 1 0) ≡ m
+maybe-again : (m : Option ℕ) → maybe_of (get_or (maybe_words m) 0 0) (get_or (maybe_words m) 1 0) ≡ m
 unfolding maybe_of
-maybe-again MaybeNumber.None = refl
-maybe-again (MaybeNumber.Some n) = refl
+maybe-again None = refl
+maybe-again (Some n) = refl
 
 modifier-again : (m : Modifier) → modifier_of (get_or (modifier_words m) 0 0) (get_or (modifier_words m) 1 0) ≡ m
 unfolding modifier_of
@@ -61,28 +59,28 @@ modifier-again Modifier.None = refl
 modifier-again (Modifier.Plus n) = refl
 modifier-again (Modifier.Minus n) = refl
 
-maybe-part-again : (m : MaybePart) → maybe_part_of (get_or (maybe_part_words m) 0 0) (get_or (maybe_part_words m) 1 0) (get_or (maybe_part_words m) 2 0) ≡ m
+maybe-part-again : (m : Option Part) → maybe_part_of (get_or (maybe_part_words m) 0 0) (get_or (maybe_part_words m) 1 0) (get_or (maybe_part_words m) 2 0) ≡ m
 unfolding maybe_part_of
-maybe-part-again MaybePart.None = refl
-maybe-part-again (MaybePart.Some p) = refl
+maybe-part-again None = refl
+maybe-part-again (Some p) = refl
 
-maybe-pair : (m : MaybeNumber) → maybe_words m ≡ get_or (maybe_words m) 0 0 ∷ get_or (maybe_words m) 1 0 ∷ []
-maybe-pair MaybeNumber.None = refl
-maybe-pair (MaybeNumber.Some n) = refl
+maybe-pair : (m : Option ℕ) → maybe_words m ≡ get_or (maybe_words m) 0 0 ∷ get_or (maybe_words m) 1 0 ∷ []
+maybe-pair None = refl
+maybe-pair (Some n) = refl
 
 modifier-pair : (m : Modifier) → modifier_words m ≡ get_or (modifier_words m) 0 0 ∷ get_or (modifier_words m) 1 0 ∷ []
 modifier-pair Modifier.None = refl
 modifier-pair (Modifier.Plus n) = refl
 modifier-pair (Modifier.Minus n) = refl
 
-maybe-part-three : (m : MaybePart)
+maybe-part-three : (m : Option Part)
     → maybe_part_words m ≡ get_or (maybe_part_words m) 0 0 ∷ get_or (maybe_part_words m) 1 0 ∷ get_or (maybe_part_words m) 2 0 ∷ []
-maybe-part-three MaybePart.None = refl
-maybe-part-three (MaybePart.Some p) = refl
+maybe-part-three None = refl
+maybe-part-three (Some p) = refl
 
 -- ---- a field
 
-module _ (key : ℕ) (c : Cond) where
+module _ (key : ℕ) (c : Option Condition) where
   table : List ℕ → List ℕ
   table words = key ∷ (words ++ cond_words c)
 
@@ -92,7 +90,7 @@ module _ (key : ℕ) (c : Cond) where
   unfolding table desc_of
   payload-again modifier e h = rw (e, desc_of) (ap (λ (m : Modifier). FieldDesc.Payload m) h)
 
-  array_again : (id : Part) (width : MaybeNumber) (type : MaybePart) (modifier : Modifier) (size : MaybeNumber) {a b x y o p q m n : ℕ}
+  array_again : (id : Part) (width : Option ℕ) (type : Option Part) (modifier : Modifier) (size : Option ℕ) {a b x y o p q m n : ℕ}
       → maybe_words width ≡ a ∷ b ∷ [] → maybe_of a b ≡ width → maybe_words size ≡ x ∷ y ∷ [] → maybe_of x y ≡ size
       → maybe_part_words type ≡ o ∷ p ∷ q ∷ [] → maybe_part_of o p q ≡ type → modifier_words modifier ≡ m ∷ n ∷ [] → modifier_of m n ≡ modifier
       → desc_of (table (desc_words (FieldDesc.Array id width type modifier size))) 0 ≡ FieldDesc.Array id width type modifier size
@@ -126,10 +124,11 @@ of-behind : (t : List ℕ) → cond_of t 0 ≡ cond_of (behind (get_or t 13 0) (
 unfolding cond_of
 of-behind t = refl
 
-cond_back : (c : Cond) → cond_of (behind (get_or (cond_words c) 0 0) (get_or (cond_words c) 1 0) (get_or (cond_words c) 2 0) (get_or (cond_words c) 3 0)) 0 ≡ c
+cond_back : (c : Option Condition)
+    → cond_of (behind (get_or (cond_words c) 0 0) (get_or (cond_words c) 1 0) (get_or (cond_words c) 2 0) (get_or (cond_words c) 3 0)) 0 ≡ c
 unfolding cond_of
-cond_back Cond.None = refl
-cond_back (Cond.Some id value) = refl
+cond_back None = refl
+cond_back (Some cond) = refl
 
 cond-again : (f : Field) → cond_of (field_words f) 0 ≡ f.cond
 cond-again f = of-behind (field_words f) ∙ rw (word 0, word 1, word 2, word 3) (cond_back f.cond)
@@ -143,7 +142,7 @@ words-again : (f : Field) → field_of (field_words f) 0 ≡ f
 unfolding table
 words-again f = rw (desc-again f.key f.cond f.desc, cond-again f)
 
-of-nothing : field_of [] 0 ≡ record { key = 0; desc = FieldDesc.Body; cond = Cond.None }
+of-nothing : field_of [] 0 ≡ record { key = 0; desc = FieldDesc.Body; cond = None }
 unfolding desc_of cond_of plain_of
 of-nothing = refl
 
@@ -179,7 +178,7 @@ module _ (v : List ℕ) where
   here-first = refl
 
   -- of a table of zeros
-  pub here-zero : ((k : ℕ) → get_or v k 0 ≡ 0) → (at : ℕ) → field_here v at ≡ record { key = 0; desc = FieldDesc.Body; cond = Cond.None }
+  pub here-zero : ((k : ℕ) → get_or v k 0 ≡ 0) → (at : ℕ) → field_here v at ≡ record { key = 0; desc = FieldDesc.Body; cond = None }
   unfolding field_here
   here-zero z at = field-same v [] (at / 16 * 17) 0 (λ k m. z (at / 16 * 17 + k)) ∙ of-nothing
 
@@ -189,15 +188,15 @@ bit-again : (b : Bool) → bit_of (bit_word b) ≡ b
 bit-again true = refl
 bit-again false = refl
 
-stated-front : (b : MaybeSize) (rest : List ℕ) → stated_of (get_or (stated_words b ++ rest) 0 0) (get_or (stated_words b ++ rest) 1 0) ≡ b
+stated-front : (b : Option Size) (rest : List ℕ) → stated_of (get_or (stated_words b ++ rest) 0 0) (get_or (stated_words b ++ rest) 1 0) ≡ b
 unfolding stated_of
-stated-front MaybeSize.None rest = refl
-stated-front (MaybeSize.Some (Size.Static bits)) rest = refl
-stated-front (MaybeSize.Some Size.Dynamic) rest = refl
-stated-front (MaybeSize.Some Size.Unknown) rest = refl
+stated-front None rest = refl
+stated-front (Some (Size.Static bits)) rest = refl
+stated-front (Some Size.Dynamic) rest = refl
+stated-front (Some Size.Unknown) rest = refl
 
 -- the numbers of a row behind those of its name
-module _ (desc : DeclDesc) (bits : MaybeSize) (count : ℕ) where
+module _ (desc : DeclDesc) (bits : Option Size) (count : ℕ) where
   abbrev end : List ℕ
   end = (decl_desc_words desc ++ stated_words bits) ++ (count ∷ [])
 
@@ -212,7 +211,8 @@ module _ (desc : DeclDesc) (bits : MaybeSize) (count : ℕ) where
 
   count_of : get_or end 6 0 ≡ count
   count_of =
-      behind-desc 2 ∙ ap (λ (n : ℕ). get_or (stated_words bits ++ (count ∷ [])) n 0) (sym (stated-length bits)) ∙ get_or-append_seam (stated_words bits) count [] 0
+      behind-desc 2 ∙ ap (λ (n : ℕ). get_or (stated_words bits ++ (count ∷ [])) n 0) (sym (stated-length bits))
+      ∙ get_or-append_seam (stated_words bits) count [] 0
 
 module _ (key : ℕ) (id : Part) (rest : List ℕ) where
   abbrev row : DeclDesc → List ℕ
@@ -221,17 +221,17 @@ module _ (key : ℕ) (id : Part) (rest : List ℕ) where
   abbrev Again : DeclDesc → Type 0
   Again desc = decl_desc_of (get_or (row desc) 3 0) (get_or (row desc) 4 0) (get_or (row desc) 5 0) (get_or (row desc) 6 0) ≡ desc
 
-  custom-again : (width : MaybeNumber) {a b : ℕ} → maybe_words width ≡ a ∷ b ∷ [] → maybe_of a b ≡ width → Again (DeclDesc.CustomField width)
+  custom-again : (width : Option ℕ) {a b : ℕ} → maybe_words width ≡ a ∷ b ∷ [] → maybe_of a b ≡ width → Again (DeclDesc.CustomField width)
   unfolding decl_desc_of
-  custom-again width e h = rw e (ap (λ (m : MaybeNumber). DeclDesc.CustomField m) h)
+  custom-again width e h = rw e (ap (λ (m : Option ℕ). DeclDesc.CustomField m) h)
 
-  packet-again : (parent : MaybePart) {a b c : ℕ} → maybe_part_words parent ≡ a ∷ b ∷ c ∷ [] → maybe_part_of a b c ≡ parent → Again (DeclDesc.Packet parent)
+  packet-again : (parent : Option Part) {a b c : ℕ} → maybe_part_words parent ≡ a ∷ b ∷ c ∷ [] → maybe_part_of a b c ≡ parent → Again (DeclDesc.Packet parent)
   unfolding decl_desc_of
-  packet-again parent e h = rw e (ap (λ (m : MaybePart). DeclDesc.Packet m) h)
+  packet-again parent e h = rw e (ap (λ (m : Option Part). DeclDesc.Packet m) h)
 
-  struct-again : (parent : MaybePart) {a b c : ℕ} → maybe_part_words parent ≡ a ∷ b ∷ c ∷ [] → maybe_part_of a b c ≡ parent → Again (DeclDesc.Struct parent)
+  struct-again : (parent : Option Part) {a b c : ℕ} → maybe_part_words parent ≡ a ∷ b ∷ c ∷ [] → maybe_part_of a b c ≡ parent → Again (DeclDesc.Struct parent)
   unfolding decl_desc_of
-  struct-again parent e h = rw e (ap (λ (m : MaybePart). DeclDesc.Struct m) h)
+  struct-again parent e h = rw e (ap (λ (m : Option Part). DeclDesc.Struct m) h)
 
   decl-desc-again : (desc : DeclDesc) → Again desc
   unfolding decl_desc_of

@@ -1,5 +1,7 @@
 -- What is read back depends on the numbers of an entry alone: 17 for a field, 9 for a declaration.
 -- Assumes nothing.
+use Rattle.std.specs.Prelude.{Option}
+use Rattle.definitions.specs.declared.Size.{Size}
 use Prim.Native.Nat.{ℕ, ◌+◌, ◌*◌, ◌/◌, ◌≤◌, ◌<◌}
 use mathlib.Core.List.{List, [], ◌∷◌}
 use mathlib.Core.Path.{◌≡◌, refl, sym, ap, ◌∙◌}
@@ -7,9 +9,8 @@ use native.Mathlib.Nat.{add-zero}
 use native.Mathlib.Omega.{arith}
 use lib.ListN.{length, get_or, get_or-eq_default}
 use Rattle.definitions.specs.Record.{part_of}
-use Rattle.definitions.specs.declared.Cond.{Cond}
+use Rattle.definitions.specs.declared.Condition.{Condition}
 use Rattle.definitions.specs.declared.Field.{Field}
-use Rattle.definitions.specs.declared.MaybeSize.{MaybeSize}
 use Rattle.definitions.specs.declared.Decl.{Decl}
 use Rattle.definitions.specs.declared.Part.{Part}
 use Rattle.tables.specs.Words.{desc_of, cond_of, field_of, stated_of, decl_of}
@@ -95,10 +96,10 @@ module _ (t : List ℕ) where
   decl-there i e = e
 
   -- a part of the entry alone
-  pub cond-past : (at : ℕ) → length t / 17 < at / 16 → {r : Cond} → r ≡ cond_of t (length t) → r ≡ (field_here t at).cond
+  pub cond-past : (at : ℕ) → length t / 17 < at / 16 → {r : Option Condition} → r ≡ cond_of t (length t) → r ≡ (field_here t at).cond
   cond-past at h e = e ∙ ap (λ (f : Field). f.cond) (field_past at h refl)
 
-  pub cond-there : (at : ℕ) {r : Cond} → r ≡ cond_of t (at / 16 * 17) → r ≡ (field_here t at).cond
+  pub cond-there : (at : ℕ) {r : Option Condition} → r ≡ cond_of t (at / 16 * 17) → r ≡ (field_here t at).cond
   unfolding field_here
   cond-there at e = e
 
@@ -109,20 +110,10 @@ module _ (t : List ℕ) where
   unfolding decl_here
   id-there i e = e
 
-  pub bits-past : (i : ℕ) → length t / 13 < i → {r : MaybeSize} → r ≡ stated_of (get_or t (length t + 7) 0) (get_or t (length t + 8) 0) → r ≡ (decl_here t i).bits
+  pub bits-past : (i : ℕ) → length t / 13 < i → {r : Option Size} → r ≡ stated_of (get_or t (length t + 7) 0) (get_or t (length t + 8) 0)
+      → r ≡ (decl_here t i).bits
   bits-past i h e = e ∙ ap (λ (d : Decl). d.bits) (decl-past i h refl)
 
-  pub bits-there : (i : ℕ) {r : MaybeSize} → r ≡ stated_of (get_or t (i * 13 + 7) 0) (get_or t (i * 13 + 8) 0) → r ≡ (decl_here t i).bits
+  pub bits-there : (i : ℕ) {r : Option Size} → r ≡ stated_of (get_or t (i * 13 + 7) 0) (get_or t (i * 13 + 8) 0) → r ≡ (decl_here t i).bits
   unfolding decl_here
   bits-there i e = e
-
-  pub number_past : (at k : ℕ) → length t / 17 < at / 16 → 0 ≡ get_or t (at / 16 * 17 + k) 0
-  number_past at k h = sym (get_or-eq_default t 0 (omega arith))
-
-  pub name-past : (at : ℕ) → length t / 17 < at / 16 → {r : Part} → r ≡ part_of (get_or t (length t + 2) 0) (get_or t (length t + 3) 0)
-      → r ≡ part_of (get_or t (at / 16 * 17 + 2) 0) (get_or t (at / 16 * 17 + 3) 0)
-  name-past at h e =
-      e ∙ rw (out (length t) 2 (omega arith), out (length t) 3 (omega arith), sym (number_past at 2 h), sym (number_past at 3 h))
-
-  pub count_past : (i : ℕ) → length t / 13 < i → 0 ≡ get_or t (i * 13 + 9) 0
-  count_past i h = sym (get_or-eq_default t 0 (omega arith))

@@ -1,7 +1,6 @@
 pub mod Search
 pub mod Walks
 pub mod Entries
-pub mod Reading
 pub mod Writing
 pub mod Again
 pub mod Sized

@@ -1,6 +1,14 @@
 -- A walk over the entries of a table, one index after the other: what is left of what the tables give (`fields_from`, `declarations_from`), and `any`
 -- of it.
 -- Assumes nothing.
+use Rattle.std.specs.Prelude.{Option}
+use Rattle.std.specs.Fn.{Called}
+use Rattle.std.specs.Iterator.{YieldsThen}
+use Rattle.std.specs.List.{FoldsTo, list_any, range_with_len}
+use Rattle.std.specs.Option.{MatchOption}
+use Rattle.std.proofs.lemmas.Iterator.{YieldsList}
+use Rattle.std.proofs.lemmas.Iterator.Search.{any_from_yields_List}
+use denote.Param.Members.{Mut}
 use Prim.Native.Nat.{ℕ, zero, suc, ◌+◌, ◌-◌, ◌≤◌, ◌<◌}
 use mathlib.Core.Bool.{Bool, true, false, ◌||◌}
 use mathlib.Core.List.{List, [], ◌∷◌}
@@ -52,6 +60,18 @@ module _ {A : Type 0} {here : ℕ → A} {from : ℕ → ℕ → List A} (x : In
         by zero h false ep e ih = ap (λ (m : ℕ). P (here m)) (add-zero i) ∙ ep
         by (suc k) h false ep e ih = ap (λ (m : ℕ). P (here m)) (let z : i + suc k ≡ i + 1 + k = omega arith in z) ∙ ih e k (omega arith)
 
+  -- `(a..n).any(f)`, where f tests the entry with the index that it is given
+  any-tests : (P : A → Bool) (i m : ℕ) → list_any (λ k. P (here k)) (range_with_len i m) ≡ any P (from i m)
+  any-tests P i zero = ap (any P) (sym (x.none i))
+  any-tests P i (suc m) = ap (λ (b : Bool). P (here i) || b) (any-tests P (i + 1) m) ∙ ap (any P) (sym (x.more i m))
+
+  module _ {S F : Type 0} {steps : S → Option ℕ → S → Type 0} {g : Mut F (ℕ × Unit {0}) Bool} {s : S} (P : A → Bool) (i m : ℕ) (u : S) (f : F) (r : Bool) where
+    pub any_turns : (xs : List ℕ) × (o : Option ℕ) × (j : F) × YieldsThen steps s xs o u × FoldsTo (λ p x q. Called g p (x, tt) false q) f xs j
+        × MatchOption o (r ≡ false) (λ x. (r ≡ true) × ((h : F) × Called g j (x, tt) true h))
+        → YieldsList steps (λ x. x) s (range_with_len i m) → {all : List A} → from i m ≡ all
+        → ((k : ℕ) (b : Bool) (q : F) → Called g f (k, tt) b q → (q ≡ f) × (b ≡ P (here k))) → r ≡ any P all
+    any_turns ran e a h = any_from_yields_List (λ k. P (here k)) u f r ran e h ∙ any-tests P i m ∙ ap (any P) a
+
 -- ---- the fields that a table has from the entry j on
 
 module _ (values fields : List ℕ) (j : ℕ) where
@@ -61,7 +81,7 @@ module _ (values fields : List ℕ) (j : ℕ) where
   abbrev placed-from : ℕ → ℕ → List Field
   placed-from k m = fields_from values fields (j + k) m
 
-  by_index : Indexed placed placed-from
+  pub by_index : Indexed placed placed-from
   unfolding fields_from
   by_index = record {
     none = λ k. refl;
@@ -69,6 +89,9 @@ module _ (values fields : List ℕ) (j : ℕ) where
   }
 
   module _ (n : ℕ) where
+    pub fields-all : fields_from values fields (j + 0) n ≡ fields_from values fields j n
+    fields-all = ap (λ (j : ℕ). fields_from values fields j n) (add-zero j)
+
     pub fields-start : fields_from values fields (j + 0) (n - 0) ≡ fields_from values fields j n
     fields-start = ap (λ (j : ℕ). fields_from values fields j (n - 0)) (add-zero j) ∙ ap (fields_from values fields j) (sub-zero n)
 
@@ -80,9 +103,6 @@ module _ (values fields : List ℕ) (j : ℕ) where
     fields-more k h = from_more by_index n k h
 
 module _ (P : Field → Bool) (values fields : List ℕ) (j m : ℕ) where
-  pub any-fields-start : any P (fields_from values fields (j + 0) (m - 0)) ≡ any P (fields_from values fields j m)
-  any-fields-start = ap (any P) (fields-start values fields j m)
-
   module _ (k : ℕ) {e : Bool} (inv : any P (fields_from values fields (j + k) (m - k)) ≡ e) where
     pub any-fields-end : m ≤ k → false ≡ e
     any-fields-end h = walk_end (by_index values fields j) P m k inv h
@@ -93,27 +113,27 @@ module _ (P : Field → Bool) (values fields : List ℕ) (j m : ℕ) where
     pub any-fields-turn : k < m → P (field_here values (get_or fields (j + k) 0)) ≡ false → any P (fields_from values fields (j + (k + 1)) (m - (k + 1))) ≡ e
     any-fields-turn h b = walk_turn (by_index values fields j) P m k inv h b
 
+-- the same by their places in the table
+module _ (values fields : List ℕ) where
+  abbrev at-place : ℕ → Field
+  at-place j = field_here values (get_or fields j 0)
+
+  pub by_place : Indexed at-place (fields_from values fields)
+  unfolding fields_from
+  by_place = record { none = λ j. refl; more = λ j m. refl }
+
 -- ---- the declarations that the tables have
 
-module _ (P : Declaration → Bool) (rows values fields : List ℕ) where
-  declarations : Indexed (declaration_in rows values fields) (declarations_from rows values fields)
+module _ (rows values fields : List ℕ) where
+  pub declarations : Indexed (declaration_in rows values fields) (declarations_from rows values fields)
   unfolding declarations_from
   declarations = record { none = λ i. refl; more = λ i m. refl }
 
+module _ (P : Declaration → Bool) (rows values fields : List ℕ) where
   pub any-declarations-false : (n : ℕ) → any P (declarations_from rows values fields 0 n) ≡ false
       → (k : ℕ) → k < n → P (declaration_in rows values fields k) ≡ false
   any-declarations-false n e k h =
-      sym (ap (λ (i : ℕ). P (declaration_in rows values fields i)) (zero-add k)) ∙ walk-false declarations P n 0 e k h
-
-  module _ (n i : ℕ) {e : Bool} (inv : any P (declarations_from rows values fields i (n - i)) ≡ e) where
-    pub any-declarations-end : n ≤ i → false ≡ e
-    any-declarations-end h = walk_end declarations P n i inv h
-
-    pub any-declarations-found : i < n → P (declaration_in rows values fields i) ≡ true → true ≡ e
-    any-declarations-found h b = walk-found declarations P n i inv h b
-
-    pub any-declarations-turn : i < n → P (declaration_in rows values fields i) ≡ false → any P (declarations_from rows values fields (i + 1) (n - (i + 1))) ≡ e
-    any-declarations-turn h b = walk_turn declarations P n i inv h b
+      sym (ap (λ (i : ℕ). P (declaration_in rows values fields i)) (zero-add k)) ∙ walk-false (declarations rows values fields) P n 0 e k h
 
 module _ (rows values fields : List ℕ) where
   pub length-declarations : (i n : ℕ) → length (declarations_from rows values fields i n) ≡ n

@@ -1,7 +1,7 @@
 -- What the tables of a record give back, by total functions, for any tables: `rows` with 13 numbers for each declaration, `fields` with 64 places for each,
 -- and `values` with 17 numbers for each field, at 17 * (its place / 16), since a field has 16 bytes or more. No part of the answer.
 -- Assumes nothing.
-use Rattle.std.specs.Prelude.{true, false, List, [], ◌∷◌, ℕ, zero, suc, ◌+◌, ◌*◌, ◌/◌, get_or, set}
+use Rattle.std.specs.Prelude.{Option, Some, None, true, false, List, [], ◌∷◌, ℕ, zero, suc, ◌+◌, ◌*◌, ◌/◌, get_or, set}
 use Rattle.definitions.specs.Bytes.{Text}
 use Rattle.definitions.specs.Record.{Declaration}
 use Rattle.definitions.specs.Sizes.{Row, same_name}
@@ -9,7 +9,6 @@ use Rattle.definitions.specs.Tables.{decode}
 use Rattle.definitions.specs.declared.Field.{Field}
 use Rattle.definitions.specs.declared.Decl.{Decl}
 use Rattle.definitions.specs.declared.Part.{Part}
-use Rattle.definitions.specs.declared.Found.{Found}
 use Rattle.tables.specs.Words.{field_of, decl_of}
 
 -- ---- fields
@@ -68,9 +67,9 @@ decls_from rows i zero = []
 decls_from rows i (suc m) = decl_here rows i ∷ decls_from rows (i + 1) m
 
 -- the index of the first with the name, where the first of the list has index i
-unfoldable pub which : Text → Part → ℕ → List Decl → Found
-which s name i [] = Found.Nothing
-which s name i (d ∷ ds) = elim (same_name s d.id name) [ true ↦ Found.At i | false ↦ which s name (i + 1) ds ]
+unfoldable pub which : Text → Part → ℕ → List Decl → Option ℕ
+which s name i [] = None
+which s name i (d ∷ ds) = elim (same_name s d.id name) [ true ↦ Some i | false ↦ which s name (i + 1) ds ]
 
 -- ---- the record and its tables as one thing
 

@@ -1,16 +1,13 @@
 -- Fields and declarations as numbers of a table: how each is written, and how it is read back. What may be absent has a number of its own, 0 where it is.
 -- Assumes nothing.
-use Rattle.std.specs.Prelude.{Bool, true, false, not, List, [], ◌∷◌, ◌++◌, ℕ, ◌+◌, ltb, eqb, get_or}
+use Rattle.std.specs.Prelude.{Option, Some, None, Bool, true, false, not, List, [], ◌∷◌, ◌++◌, ℕ, ◌+◌, ltb, eqb, get_or}
 use Rattle.definitions.specs.Record.{part_of}
 use Rattle.definitions.specs.declared.Part.{Part}
-use Rattle.definitions.specs.declared.MaybePart.{MaybePart}
-use Rattle.definitions.specs.declared.MaybeNumber.{MaybeNumber}
 use Rattle.definitions.specs.declared.Modifier.{Modifier}
 use Rattle.definitions.specs.declared.FieldDesc.{FieldDesc}
-use Rattle.definitions.specs.declared.Cond.{Cond}
+use Rattle.definitions.specs.declared.Condition.{Condition}
 use Rattle.definitions.specs.declared.Field.{Field}
 use Rattle.definitions.specs.declared.Size.{Size}
-use Rattle.definitions.specs.declared.MaybeSize.{MaybeSize}
 use Rattle.definitions.specs.declared.DeclDesc.{DeclDesc}
 use Rattle.definitions.specs.declared.Decl.{Decl}
 
@@ -26,19 +23,19 @@ bit_word true = 1
 abbrev pub bit_of : ℕ → Bool
 bit_of n = not (eqb n 0)
 
-abbrev pub maybe_words : MaybeNumber → List ℕ
-maybe_words MaybeNumber.None = 0 ∷ 0 ∷ []
-maybe_words (MaybeNumber.Some n) = 1 ∷ n ∷ []
+abbrev pub maybe_words : Option ℕ → List ℕ
+maybe_words None = 0 ∷ 0 ∷ []
+maybe_words (Some n) = 1 ∷ n ∷ []
 
-unfoldable pub maybe_of : ℕ → ℕ → MaybeNumber
-maybe_of tag n = elim (eqb tag 0) [ true ↦ MaybeNumber.None | false ↦ MaybeNumber.Some n ]
+unfoldable pub maybe_of : ℕ → ℕ → Option ℕ
+maybe_of tag n = elim (eqb tag 0) [ true ↦ None | false ↦ Some n ]
 
-abbrev pub maybe_part_words : MaybePart → List ℕ
-maybe_part_words MaybePart.None = 0 ∷ 0 ∷ 0 ∷ []
-maybe_part_words (MaybePart.Some p) = 1 ∷ part_words p
+abbrev pub maybe_part_words : Option Part → List ℕ
+maybe_part_words None = 0 ∷ 0 ∷ 0 ∷ []
+maybe_part_words (Some p) = 1 ∷ part_words p
 
-unfoldable pub maybe_part_of : ℕ → ℕ → ℕ → MaybePart
-maybe_part_of tag from to = elim (eqb tag 0) [ true ↦ MaybePart.None | false ↦ MaybePart.Some (part_of from to) ]
+unfoldable pub maybe_part_of : ℕ → ℕ → ℕ → Option Part
+maybe_part_of tag from to = elim (eqb tag 0) [ true ↦ None | false ↦ Some (part_of from to) ]
 
 abbrev pub modifier_words : Modifier → List ℕ
 modifier_words Modifier.None = 0 ∷ 0 ∷ []
@@ -63,7 +60,7 @@ abbrev pub typed_words : ℕ → Part → Part → List ℕ
 typed_words kind first second = kind ∷ (part_words first ++ (0 ∷ 0 ∷ 0 ∷ 0 ∷ (1 ∷ (part_words second ++ (0 ∷ 0 ∷ [])))))
 
 -- what an array has behind its name
-abbrev pub shape_words : MaybeNumber → MaybePart → Modifier → MaybeNumber → List ℕ
+abbrev pub shape_words : Option ℕ → Option Part → Modifier → Option ℕ → List ℕ
 shape_words width type modifier size = maybe_words width ++ (maybe_words size ++ (maybe_part_words type ++ modifier_words modifier))
 
 abbrev pub desc_words : FieldDesc → List ℕ
@@ -83,9 +80,9 @@ desc_words (FieldDesc.Payload modifier) = 12 ∷ (nowhere ++ (0 ∷ 0 ∷ 0 ∷ 
 desc_words (FieldDesc.Array id width type modifier size) =
     13 ∷ (part_words id ++ shape_words width type modifier size)
 
-abbrev pub cond_words : Cond → List ℕ
-cond_words Cond.None = 0 ∷ 0 ∷ 0 ∷ 0 ∷ []
-cond_words (Cond.Some id value) = 1 ∷ (part_words id ++ (value ∷ []))
+abbrev pub cond_words : Option Condition → List ℕ
+cond_words None = 0 ∷ 0 ∷ 0 ∷ 0 ∷ []
+cond_words (Some cond) = 1 ∷ (part_words cond.id ++ (cond.value ∷ []))
 
 abbrev pub field_words : Field → List ℕ
 field_words f = f.key ∷ (desc_words f.desc ++ cond_words f.cond)
@@ -146,26 +143,26 @@ module _ (t : List ℕ) (at : ℕ) where
     ]
   ]
 
-  unfoldable pub cond_of : Cond
-  cond_of = elim (eqb (word 13) 0) [ true ↦ Cond.None | false ↦ Cond.Some (part_of (word 14) (word 15)) (word 16) ]
+  unfoldable pub cond_of : Option Condition
+  cond_of = elim (eqb (word 13) 0) [ true ↦ None | false ↦ Some (record { id = (part_of (word 14) (word 15)); value = (word 16) }) ]
 
   abbrev pub field_of : Field
   field_of = record { key = word 0; desc = desc_of; cond = cond_of }
 
 -- ---- a declaration: 9 numbers. Its key, its name, its kind and three more, and two of its `bits` line
 
-abbrev pub stated_words : MaybeSize → List ℕ
-stated_words MaybeSize.None = 0 ∷ 0 ∷ []
-stated_words (MaybeSize.Some (Size.Static bits)) = 1 ∷ bits ∷ []
-stated_words (MaybeSize.Some Size.Dynamic) = 2 ∷ 0 ∷ []
-stated_words (MaybeSize.Some Size.Unknown) = 3 ∷ 0 ∷ []
+abbrev pub stated_words : Option Size → List ℕ
+stated_words None = 0 ∷ 0 ∷ []
+stated_words (Some (Size.Static bits)) = 1 ∷ bits ∷ []
+stated_words (Some Size.Dynamic) = 2 ∷ 0 ∷ []
+stated_words (Some Size.Unknown) = 3 ∷ 0 ∷ []
 
-unfoldable pub stated_of : ℕ → ℕ → MaybeSize
+unfoldable pub stated_of : ℕ → ℕ → Option Size
 stated_of tag n = elim (eqb tag 0) [
-  | true ↦ MaybeSize.None
+  | true ↦ None
   | false ↦ elim (eqb tag 1) [
-    | true ↦ MaybeSize.Some (Size.Static n)
-    | false ↦ elim (eqb tag 2) [ true ↦ MaybeSize.Some Size.Dynamic | false ↦ MaybeSize.Some Size.Unknown ]
+    | true ↦ Some (Size.Static n)
+    | false ↦ elim (eqb tag 2) [ true ↦ Some Size.Dynamic | false ↦ Some Size.Unknown ]
   ]
 ]
 

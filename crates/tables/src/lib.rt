@@ -14,28 +14,78 @@ ghost use Rattle.tables.specs.Words.{desc_words, cond_words, field_words, decl_d
 ghost use Rattle.tables.specs.Words.{bit_of, maybe_of, maybe_part_of, modifier_of, plain_of, desc_of, cond_of, field_of, decl_desc_of, stated_of, decl_of};
 ghost use Rattle.tables.specs.Tables.{field_here, decl_here, count_here, decls_from, which};
 
-use definitions::{
-    Cond, Decl, DeclDesc, Field, FieldDesc, Found, MaybeNumber, MaybePart, MaybeSize, Modifier,
-    Part, Size,
-};
+use definitions::{Condition, Decl, DeclDesc, Field, FieldDesc, Modifier, Part, Size};
+use std::marker::Model;
+
+// A record and its tables, lent.
+#[derive(Drop)]
+pub struct Tables<'a> {
+    pub source: &'a [u8],
+    pub rows: &'a [u64],
+    pub values: &'a [u64],
+    pub fields: &'a [u16],
+}
+
+impl<'a> Model for Tables<'a> {
+    ghost use Rattle.tables.specs.Tables.{Tables as Seen, tables_of};
+
+    ghost Value = { Seen };
+
+    ghost view = { λ t. tables_of t.source.now t.rows.now t.values.now t.fields.now };
+}
+
+// The kinds of a field as the table has them. A kind above the last is an array's too.
+pub const KIND_BODY: u64 = 0;
+
+pub const KIND_CHECKSUM: u64 = 1;
+
+pub const KIND_PADDING: u64 = 2;
+
+pub const KIND_SIZE: u64 = 3;
+
+pub const KIND_COUNT: u64 = 4;
+
+pub const KIND_ELEMENT_SIZE: u64 = 5;
+
+pub const KIND_FIXED_SCALAR: u64 = 6;
+
+pub const KIND_RESERVED: u64 = 7;
+
+pub const KIND_SCALAR: u64 = 8;
+
+pub const KIND_FLAG: u64 = 9;
+
+pub const KIND_FIXED_ENUM: u64 = 10;
+
+pub const KIND_TYPEDEF: u64 = 11;
+
+pub const KIND_PAYLOAD: u64 = 12;
+
+pub const KIND_ARRAY: u64 = 13;
 
 // ---- the entries of a table
 
-// A place is below 16,384, so the table of places has 16 bits for each.
-fn place_of(n: u16) -> usize
-    ensures { result ≡ n }
-{
-    n as usize
-}
-
-// An entry of the table of places, and 0 outside it.
+// An entry of the table of places, and 0 outside it. A place is below 16,384, so the table has 16 bits for each.
 pub fn get(t: &[u16], i: usize) -> usize
     ensures { result ≡ get_or t.now i 0 }
 {
+    usize::from(t.get(i).copied().unwrap_or(0))
+}
+
+// An entry of a table of numbers, and 0 outside it.
+pub fn number(words: &[u64], i: usize) -> u64
+    ensures { result ≡ get_or words.now i 0 }
+{
+    words.get(i).copied().unwrap_or(0)
+}
+
+// Sets an entry of a table; nothing is written outside it.
+fn set_entry<T: Copy>(t: &mut [T], i: usize, v: T)
+    ensures { t.new ≡ set t.old i v }
+{
     if i < t.len() {
-        return place_of(t[i]);
+        t[i] = v;
     }
-    0
 }
 
 // Sets an entry of the table of places; nothing is written outside it.
@@ -43,65 +93,42 @@ pub fn put(t: &mut [u16], i: usize, v: usize)
     requires { v < 2 ^ 16 }
     ensures { t.new ≡ set t.old i v }
 {
-    if i < t.len() {
-        t[i] = v as u16;
-    }
-}
-
-// An entry of a table of numbers, and 0 outside it.
-pub fn number(words: &[u64], i: usize) -> u64
-    ensures { result ≡ get_or words.now i 0 }
-{
-    if i < words.len() {
-        return words[i];
-    }
-    0
+    set_entry(t, i, v as u16);
 }
 
 // Sets an entry of a table of numbers; nothing is written outside it.
 pub fn put_number(words: &mut [u64], i: usize, n: u64)
     ensures { words.new ≡ set words.old i n }
 {
-    if i < words.len() {
-        words[i] = n;
-    }
+    set_entry(words, i, n);
 }
 
-// ---- reading back from the entry `at` on
+// ---- reading back from the entry `at` on; what reads one table takes it alone, also while the others are filled
 
 // The number k entries behind `at`.
 fn word(t: &[u64], at: usize, k: usize) -> u64
     ensures { result ≡ get_or t.now (at + k) 0 }
 {
-    if t.len() <= at {
-        return 0;
-    }
-    if t.len() <= k {
+    if t.len() <= at || t.len() <= k {
         return 0;
     }
     number(t, at + k)
 }
 
-// A number of 64 bits as a place.
-fn place(n: u64) -> usize
-    ensures { result ≡ n }
-{
-    n as usize
-}
-
 fn place_at(t: &[u64], at: usize, k: usize) -> usize
     ensures { result ≡ get_or t.now (at + k) 0 }
 {
-    place(word(t, at, k))
+    word(t, at, k) as usize
 }
 
 // The part whose start and end are the numbers k and l entries behind `at`.
 fn part_at(t: &[u64], at: usize, k: usize, l: usize) -> Part
     ensures { result ≡ part_of (get_or t.now (at + k) 0) (get_or t.now (at + l) 0) }
 {
-    let start = place_at(t, at, k);
-    let end = place_at(t, at, l);
-    Part { start, end }
+    Part {
+        start: place_at(t, at, k),
+        end: place_at(t, at, l),
+    }
 }
 
 fn bit_of(n: u64) -> bool
@@ -110,40 +137,35 @@ fn bit_of(n: u64) -> bool
     n != 0
 }
 
-fn maybe_of(tag: u64, n: u64) -> MaybeNumber
+#[tactic(auto, unfolding(crate::specs::Words::maybe_of))]
+fn maybe_of(tag: u64, n: u64) -> Option<u64>
     ensures { result ≡ maybe_of tag n }
 {
-    if tag == 0 {
-        return MaybeNumber::None;
-    }
-    MaybeNumber::Some(n)
+    (tag != 0).then_some(n)
 }
 
-fn maybe_part_of(tag: u64, from: usize, to: usize) -> MaybePart
+#[tactic(auto, unfolding(crate::specs::Words::maybe_part_of))]
+fn maybe_part_of(tag: u64, from: usize, to: usize) -> Option<Part>
     ensures { result ≡ maybe_part_of tag from to }
 {
-    if tag == 0 {
-        return MaybePart::None;
-    }
-    MaybePart::Some(Part {
+    (tag != 0).then_some(Part {
         start: from,
         end: to,
     })
 }
 
+#[tactic(auto, unfolding(crate::specs::Words::modifier_of))]
 fn modifier_of(sign: u64, n: u64) -> Modifier
     ensures { result ≡ modifier_of sign n }
 {
-    if sign == 0 {
-        return Modifier::None;
+    match sign {
+        0 => Modifier::None,
+        1 => Modifier::Plus(n),
+        _ => Modifier::Minus(n),
     }
-    if sign == 1 {
-        return Modifier::Plus(n);
-    }
-    Modifier::Minus(n)
 }
 
-fn maybe_at(t: &[u64], at: usize, k: usize, l: usize) -> MaybeNumber
+fn maybe_at(t: &[u64], at: usize, k: usize, l: usize) -> Option<u64>
     ensures { result ≡ maybe_of (get_or t.now (at + k) 0) (get_or t.now (at + l) 0) }
 {
     maybe_of(word(t, at, k), word(t, at, l))
@@ -158,49 +180,34 @@ fn modifier_at(t: &[u64], at: usize, k: usize, l: usize) -> Modifier
 // ---- a field
 
 // The kinds below 10.
+#[tactic(auto, unfolding(crate::specs::Words::plain_of))]
 fn plain_of(kind: u64, part: Part, n: u64, m: u64) -> FieldDesc
     ensures { result ≡ plain_of kind part n m }
 {
-    if kind == 0 {
-        return FieldDesc::Body;
-    }
-    if kind == 1 {
-        return FieldDesc::Checksum { field_id: part };
-    }
-    if kind == 2 {
-        return FieldDesc::Padding { size: n };
-    }
-    if kind == 3 {
-        return FieldDesc::Size {
+    match kind {
+        KIND_BODY => FieldDesc::Body,
+        KIND_CHECKSUM => FieldDesc::Checksum { field_id: part },
+        KIND_PADDING => FieldDesc::Padding { size: n },
+        KIND_SIZE => FieldDesc::Size {
             field_id: part,
             width: n,
-        };
-    }
-    if kind == 4 {
-        return FieldDesc::Count {
+        },
+        KIND_COUNT => FieldDesc::Count {
             field_id: part,
             width: n,
-        };
-    }
-    if kind == 5 {
-        return FieldDesc::ElementSize {
+        },
+        KIND_ELEMENT_SIZE => FieldDesc::ElementSize {
             field_id: part,
             width: n,
-        };
+        },
+        KIND_FIXED_SCALAR => FieldDesc::FixedScalar { width: n, value: m },
+        KIND_RESERVED => FieldDesc::Reserved { width: n },
+        KIND_SCALAR => FieldDesc::Scalar { id: part, width: n },
+        _ => FieldDesc::Flag { id: part },
     }
-    if kind == 6 {
-        return FieldDesc::FixedScalar { width: n, value: m };
-    }
-    if kind == 7 {
-        return FieldDesc::Reserved { width: n };
-    }
-    if kind == 8 {
-        return FieldDesc::Scalar { id: part, width: n };
-    }
-    FieldDesc::Flag { id: part }
 }
 
-fn type_at(t: &[u64], at: usize) -> MaybePart
+fn type_at(t: &[u64], at: usize) -> Option<Part>
     ensures { result ≡ maybe_part_of (get_or t.now (at + 8) 0) (get_or t.now (at + 9) 0) (get_or t.now (at + 10) 0) }
 {
     maybe_part_of(word(t, at, 8), place_at(t, at, 9), place_at(t, at, 10))
@@ -214,65 +221,58 @@ fn array_at(t: &[u64], at: usize, id: Part) -> FieldDesc
         (modifier_of (get_or t.now (at + 11) 0) (get_or t.now (at + 12) 0))
         (maybe_of (get_or t.now (at + 6) 0) (get_or t.now (at + 7) 0)) }
 {
-    let width = maybe_at(t, at, 4, 5);
-    let type_id = type_at(t, at);
-    let size_modifier = modifier_at(t, at, 11, 12);
-    let size = maybe_at(t, at, 6, 7);
     FieldDesc::Array {
         id,
-        width,
-        type_id,
-        size_modifier,
-        size,
+        width: maybe_at(t, at, 4, 5),
+        type_id: type_at(t, at),
+        size_modifier: modifier_at(t, at, 11, 12),
+        size: maybe_at(t, at, 6, 7),
     }
 }
 
+#[tactic(auto, unfolding(crate::specs::Words::desc_of))]
 fn desc_at(t: &[u64], at: usize) -> FieldDesc
     ensures { result ≡ desc_of t.now at }
 {
     let kind = word(t, at, 1);
     let part = part_at(t, at, 2, 3);
-    if kind < 10 {
-        return plain_of(kind, part, word(t, at, 4), word(t, at, 5));
-    }
-    if kind == 10 {
-        return FieldDesc::FixedEnum {
+    match kind {
+        0..=KIND_FLAG => plain_of(kind, part, word(t, at, 4), word(t, at, 5)),
+        KIND_FIXED_ENUM => FieldDesc::FixedEnum {
             enum_id: part,
             tag_id: part_at(t, at, 9, 10),
-        };
-    }
-    if kind == 11 {
-        return FieldDesc::Typedef {
+        },
+        KIND_TYPEDEF => FieldDesc::Typedef {
             id: part,
             type_id: part_at(t, at, 9, 10),
-        };
-    }
-    if kind == 12 {
-        return FieldDesc::Payload {
+        },
+        KIND_PAYLOAD => FieldDesc::Payload {
             size_modifier: modifier_at(t, at, 11, 12),
-        };
+        },
+        _ => array_at(t, at, part),
     }
-    array_at(t, at, part)
 }
 
-fn cond_at(t: &[u64], at: usize) -> Cond
+#[tactic(auto, unfolding(crate::specs::Words::cond_of))]
+fn cond_at(t: &[u64], at: usize) -> Option<Condition>
     ensures { result ≡ cond_of t.now at }
 {
     if word(t, at, 13) == 0 {
-        return Cond::None;
+        return None;
     }
     let id = part_at(t, at, 14, 15);
     let value = word(t, at, 16);
-    Cond::Some { id, value }
+    Some(Condition { id, value })
 }
 
 fn field_at(t: &[u64], at: usize) -> Field
     ensures { result ≡ field_of t.now at }
 {
-    let key = place_at(t, at, 0);
-    let desc = desc_at(t, at);
-    let cond = cond_at(t, at);
-    Field { key, desc, cond }
+    Field {
+        key: place_at(t, at, 0),
+        desc: desc_at(t, at),
+        cond: cond_at(t, at),
+    }
 }
 
 // The field whose place in the record is `at`.
@@ -317,7 +317,7 @@ pub fn name_here(values: &[u64], at: usize) -> Part
 }
 
 // Its condition.
-pub fn cond_here(values: &[u64], at: usize) -> Cond
+pub fn cond_here(values: &[u64], at: usize) -> Option<Condition>
     ensures { result ≡ (field_here values.now at).cond }
 {
     let e = at / 16;
@@ -329,29 +329,38 @@ pub fn cond_here(values: &[u64], at: usize) -> Cond
 
 // ---- a declaration
 
+// The kinds of a declaration as the table has them. A kind above the last is a struct's too.
+const DECL_CHECKSUM: u64 = 0;
+
+const DECL_CUSTOM_FIELD: u64 = 1;
+
+const DECL_ENUM: u64 = 2;
+
+const DECL_PACKET: u64 = 3;
+
+const DECL_STRUCT: u64 = 4;
+
+#[tactic(auto, unfolding(crate::specs::Words::decl_desc_of))]
 fn decl_desc_of(kind: u64, a: u64, b: u64, c: u64) -> DeclDesc
     ensures { result ≡ decl_desc_of kind a b c }
 {
-    if kind == 0 {
-        return DeclDesc::Checksum { width: a };
-    }
-    if kind == 1 {
-        return DeclDesc::CustomField {
+    match kind {
+        DECL_CHECKSUM => DeclDesc::Checksum { width: a },
+        DECL_CUSTOM_FIELD => DeclDesc::CustomField {
             width: maybe_of(a, b),
-        };
-    }
-    if kind == 2 {
-        return DeclDesc::Enum {
+        },
+        DECL_ENUM => DeclDesc::Enum {
             width: a,
             open: bit_of(b),
             complete: bit_of(c),
-        };
+        },
+        DECL_PACKET => DeclDesc::Packet {
+            parent_id: maybe_part_of(a, b as usize, c as usize),
+        },
+        _ => DeclDesc::Struct {
+            parent_id: maybe_part_of(a, b as usize, c as usize),
+        },
     }
-    let parent_id = maybe_part_of(a, place(b), place(c));
-    if kind == 3 {
-        return DeclDesc::Packet { parent_id };
-    }
-    DeclDesc::Struct { parent_id }
 }
 
 fn decl_desc_at(t: &[u64], at: usize) -> DeclDesc
@@ -367,22 +376,19 @@ fn decl_desc_at(t: &[u64], at: usize) -> DeclDesc
 }
 
 // What a `bits` line says.
-fn stated_of(tag: u64, n: u64) -> MaybeSize
+#[tactic(auto, unfolding(crate::specs::Words::stated_of))]
+fn stated_of(tag: u64, n: u64) -> Option<Size>
     ensures { result ≡ stated_of tag n }
 {
-    if tag == 0 {
-        return MaybeSize::None;
+    match tag {
+        0 => None,
+        1 => Some(Size::Static(n)),
+        2 => Some(Size::Dynamic),
+        _ => Some(Size::Unknown),
     }
-    if tag == 1 {
-        return MaybeSize::Some(Size::Static(n));
-    }
-    if tag == 2 {
-        return MaybeSize::Some(Size::Dynamic);
-    }
-    MaybeSize::Some(Size::Unknown)
 }
 
-fn stated_at(t: &[u64], at: usize) -> MaybeSize
+fn stated_at(t: &[u64], at: usize) -> Option<Size>
     ensures { result ≡ stated_of (get_or t.now (at + 7) 0) (get_or t.now (at + 8) 0) }
 {
     stated_of(word(t, at, 7), word(t, at, 8))
@@ -391,15 +397,11 @@ fn stated_at(t: &[u64], at: usize) -> MaybeSize
 fn decl_at(t: &[u64], at: usize) -> Decl
     ensures { result ≡ decl_of t.now at }
 {
-    let key = place(number(t, at));
-    let id = part_at(t, at, 1, 2);
-    let bits = stated_at(t, at);
-    let desc = decl_desc_at(t, at);
     Decl {
-        key,
-        id,
-        bits,
-        desc,
+        key: number(t, at) as usize,
+        id: part_at(t, at, 1, 2),
+        bits: stated_at(t, at),
+        desc: decl_desc_at(t, at),
     }
 }
 
@@ -424,7 +426,7 @@ pub fn id_here(rows: &[u64], i: usize) -> Part
 }
 
 // What its `bits` line says.
-pub fn bits_here(rows: &[u64], i: usize) -> MaybeSize
+pub fn bits_here(rows: &[u64], i: usize) -> Option<Size>
     ensures { result ≡ (decl_here rows.now i).bits }
 {
     if rows.len() / 13 < i {
@@ -447,69 +449,34 @@ pub fn count_here(rows: &[u64], i: usize) -> usize
 pub fn is_frame(desc: DeclDesc) -> bool
     ensures { result ≡ is_frame desc }
 {
-    match desc {
-        DeclDesc::Checksum { width: _ } => false,
-        DeclDesc::CustomField { width: _ } => false,
-        DeclDesc::Enum {
-            width: _,
-            open: _,
-            complete: _,
-        } => false,
-        DeclDesc::Packet { parent_id: _ } => true,
-        DeclDesc::Struct { parent_id: _ } => true,
-    }
+    matches!(desc, DeclDesc::Packet { .. } | DeclDesc::Struct { .. })
 }
 
 // `parent_id` of a packet or struct.
-pub fn parent_id(desc: DeclDesc) -> MaybePart
+pub fn parent_id(desc: DeclDesc) -> Option<Part>
     ensures { result ≡ parent_id desc }
 {
     match desc {
-        DeclDesc::Checksum { width: _ } => MaybePart::None,
-        DeclDesc::CustomField { width: _ } => MaybePart::None,
-        DeclDesc::Enum {
-            width: _,
-            open: _,
-            complete: _,
-        } => MaybePart::None,
-        DeclDesc::Packet { parent_id } => parent_id,
-        DeclDesc::Struct { parent_id } => parent_id,
+        DeclDesc::Packet { parent_id } | DeclDesc::Struct { parent_id } => parent_id,
+        _ => None,
     }
 }
 
 // ---- the look-up of a declaration
 
 // The index of the first of n declarations with a name.
-pub fn find(rec: &[u8], rows: &[u64], n: usize, name: Part) -> Found
-    ensures { result ≡ which rec.now name 0 (decls_from rows.now 0 n) }
+pub fn find(t: &Tables, n: usize, name: Part) -> Option<usize>
+    ensures { result ≡ which t.now.source name 0 (decls_from t.now.rows 0 n) }
 {
-    let mut i = 0;
-    while i < n {
-        let id = id_here(rows, i);
-        if names::same_name(rec, id, name) {
-            return Found::At(i);
-        }
-        i += 1;
-    }
-    Found::Nothing
+    (0..n).find(|&i| names::same_name(t.source, id_here(t.rows, i), name))
 }
 
-// ---- writing, from the entry `at` on
-
-// A place as a number of 64 bits.
-fn wide(n: usize) -> u64
-    ensures { result ≡ n }
-{
-    n as u64
-}
+// ---- writing, from the entry `at` on; what writes takes the one table and no `Tables`, since the others are not filled yet
 
 fn bit_word(b: bool) -> u64
     ensures { result ≡ bit_word b }
 {
-    if b {
-        return 1;
-    }
-    0
+    u64::from(b)
 }
 
 // The numbers in their order; nothing is written outside the table.
@@ -517,42 +484,28 @@ fn put_words(t: &mut [u64], at: usize, words: &[u64])
     requires { at < 2 ^ 63 }
     ensures { t.new ≡ sets t.old at words.now }
 {
-    let mut k = 0;
-    while k < words.len() {
+    for k in 0..words.len() {
         put_number(t, at + k, words[k]);
-        k += 1;
     }
 }
 
-fn put_maybe(t: &mut [u64], at: usize, m: MaybeNumber)
+fn put_maybe(t: &mut [u64], at: usize, m: Option<u64>)
     requires { at < 2 ^ 63 }
     ensures { t.new ≡ sets t.old at (maybe_words m) }
 {
     match m {
-        MaybeNumber::None => {
-            let words = [0, 0];
-            put_words(t, at, &words);
-        }
-        MaybeNumber::Some(n) => {
-            let words = [1, n];
-            put_words(t, at, &words);
-        }
+        None => put_words(t, at, &[0, 0]),
+        Some(n) => put_words(t, at, &[1, n]),
     }
 }
 
-fn put_maybe_part(t: &mut [u64], at: usize, m: MaybePart)
+fn put_maybe_part(t: &mut [u64], at: usize, m: Option<Part>)
     requires { at < 2 ^ 63 }
     ensures { t.new ≡ sets t.old at (maybe_part_words m) }
 {
     match m {
-        MaybePart::None => {
-            let words = [0, 0, 0];
-            put_words(t, at, &words);
-        }
-        MaybePart::Some(p) => {
-            let words = [1, wide(p.start), wide(p.end)];
-            put_words(t, at, &words);
-        }
+        None => put_words(t, at, &[0, 0, 0]),
+        Some(p) => put_words(t, at, &[1, p.start as u64, p.end as u64]),
     }
 }
 
@@ -561,18 +514,9 @@ fn put_modifier(t: &mut [u64], at: usize, m: Modifier)
     ensures { t.new ≡ sets t.old at (modifier_words m) }
 {
     match m {
-        Modifier::None => {
-            let words = [0, 0];
-            put_words(t, at, &words);
-        }
-        Modifier::Plus(n) => {
-            let words = [1, n];
-            put_words(t, at, &words);
-        }
-        Modifier::Minus(n) => {
-            let words = [2, n];
-            put_words(t, at, &words);
-        }
+        Modifier::None => put_words(t, at, &[0, 0]),
+        Modifier::Plus(n) => put_words(t, at, &[1, n]),
+        Modifier::Minus(n) => put_words(t, at, &[2, n]),
     }
 }
 
@@ -583,10 +527,8 @@ fn put_plain(t: &mut [u64], at: usize, kind: u64, part: Part, n: u64, m: u64)
     requires { at < 2 ^ 63 }
     ensures { t.new ≡ sets t.old at (plain_words kind (part_words part) n m) }
 {
-    let start = wide(part.start);
-    let end = wide(part.end);
-    let words = [kind, start, end, n, m, 0, 0, 0, 0, 0, 0, 0];
-    put_words(t, at, &words);
+    let (start, end) = (part.start as u64, part.end as u64);
+    put_words(t, at, &[kind, start, end, n, m, 0, 0, 0, 0, 0, 0, 0]);
 }
 
 // The kinds of two parts.
@@ -594,20 +536,16 @@ fn put_typed(t: &mut [u64], at: usize, kind: u64, first: Part, second: Part)
     requires { at < 2 ^ 63 }
     ensures { t.new ≡ sets t.old at (typed_words kind first second) }
 {
-    let a = wide(first.start);
-    let b = wide(first.end);
-    let c = wide(second.start);
-    let d = wide(second.end);
-    let words = [kind, a, b, 0, 0, 0, 0, 1, c, d, 0, 0];
-    put_words(t, at, &words);
+    let (a, b) = (first.start as u64, first.end as u64);
+    let (c, d) = (second.start as u64, second.end as u64);
+    put_words(t, at, &[kind, a, b, 0, 0, 0, 0, 1, c, d, 0, 0]);
 }
 
 fn put_payload(t: &mut [u64], at: usize, size_modifier: Modifier)
     requires { at < 2 ^ 62 }
     ensures { t.new ≡ sets t.old at (desc_words (FieldDesc.Payload size_modifier)) }
 {
-    let words = [12, 0, 0, 0, 0, 0, 0, 0, 0, 0];
-    put_words(t, at, &words);
+    put_words(t, at, &[KIND_PAYLOAD, 0, 0, 0, 0, 0, 0, 0, 0, 0]);
     put_modifier(t, at + 10, size_modifier);
 }
 
@@ -615,10 +553,10 @@ fn put_payload(t: &mut [u64], at: usize, size_modifier: Modifier)
 fn put_shape(
     t: &mut [u64],
     at: usize,
-    width: MaybeNumber,
-    type_id: MaybePart,
+    width: Option<u64>,
+    type_id: Option<Part>,
     size_modifier: Modifier,
-    size: MaybeNumber,
+    size: Option<u64>,
 )
     requires { at < 2 ^ 62 }
     ensures { t.new ≡ sets t.old at (shape_words width type_id size_modifier size) }
@@ -633,18 +571,15 @@ fn put_array(
     t: &mut [u64],
     at: usize,
     id: Part,
-    width: MaybeNumber,
-    type_id: MaybePart,
+    width: Option<u64>,
+    type_id: Option<Part>,
     size_modifier: Modifier,
-    size: MaybeNumber,
+    size: Option<u64>,
 )
     requires { at < 2 ^ 61 }
     ensures { t.new ≡ sets t.old at (desc_words (FieldDesc.Array id width type_id size_modifier size)) }
 {
-    let start = wide(id.start);
-    let end = wide(id.end);
-    let words = [13, start, end];
-    put_words(t, at, &words);
+    put_words(t, at, &[KIND_ARRAY, id.start as u64, id.end as u64]);
     put_shape(t, at + 3, width, type_id, size_modifier, size);
 }
 
@@ -654,16 +589,36 @@ fn put_desc(t: &mut [u64], at: usize, desc: FieldDesc)
 {
     let nowhere = Part { start: 0, end: 0 };
     match desc {
-        FieldDesc::Checksum { field_id } => put_plain(t, at, 1, field_id, 0, 0),
-        FieldDesc::Padding { size } => put_plain(t, at, 2, nowhere, size, 0),
-        FieldDesc::Size { field_id, width } => put_plain(t, at, 3, field_id, width, 0),
-        FieldDesc::Count { field_id, width } => put_plain(t, at, 4, field_id, width, 0),
-        FieldDesc::ElementSize { field_id, width } => put_plain(t, at, 5, field_id, width, 0),
-        FieldDesc::Body => put_plain(t, at, 0, nowhere, 0, 0),
+        FieldDesc::Checksum { field_id } => put_plain(t, at, KIND_CHECKSUM, field_id, 0, 0),
+        FieldDesc::Padding { size } => put_plain(t, at, KIND_PADDING, nowhere, size, 0),
+        FieldDesc::Size { field_id, width } => put_plain(t, at, KIND_SIZE, field_id, width, 0),
+        FieldDesc::Count { field_id, width } => put_plain(t, at, KIND_COUNT, field_id, width, 0),
+        FieldDesc::ElementSize { field_id, width } => put_plain(
+            t,
+            at,
+            KIND_ELEMENT_SIZE,
+            field_id,
+            width,
+            0,
+        ),
+        FieldDesc::Body => put_plain(t, at, KIND_BODY, nowhere, 0, 0),
         FieldDesc::Payload { size_modifier } => put_payload(t, at, size_modifier),
-        FieldDesc::FixedScalar { width, value } => put_plain(t, at, 6, nowhere, width, value),
-        FieldDesc::FixedEnum { enum_id, tag_id } => put_typed(t, at, 10, enum_id, tag_id),
-        FieldDesc::Reserved { width } => put_plain(t, at, 7, nowhere, width, 0),
+        FieldDesc::FixedScalar { width, value } => put_plain(
+            t,
+            at,
+            KIND_FIXED_SCALAR,
+            nowhere,
+            width,
+            value,
+        ),
+        FieldDesc::FixedEnum { enum_id, tag_id } => put_typed(
+            t,
+            at,
+            KIND_FIXED_ENUM,
+            enum_id,
+            tag_id,
+        ),
+        FieldDesc::Reserved { width } => put_plain(t, at, KIND_RESERVED, nowhere, width, 0),
         FieldDesc::Array {
             id,
             width,
@@ -671,27 +626,23 @@ fn put_desc(t: &mut [u64], at: usize, desc: FieldDesc)
             size_modifier,
             size,
         } => put_array(t, at, id, width, type_id, size_modifier, size),
-        FieldDesc::Scalar { id, width } => put_plain(t, at, 8, id, width, 0),
-        FieldDesc::Flag { id } => put_plain(t, at, 9, id, 0, 0),
-        FieldDesc::Typedef { id, type_id } => put_typed(t, at, 11, id, type_id),
+        FieldDesc::Scalar { id, width } => put_plain(t, at, KIND_SCALAR, id, width, 0),
+        FieldDesc::Flag { id } => put_plain(t, at, KIND_FLAG, id, 0, 0),
+        FieldDesc::Typedef { id, type_id } => put_typed(t, at, KIND_TYPEDEF, id, type_id),
     }
 }
 
-fn put_cond(t: &mut [u64], at: usize, cond: Cond)
+fn put_cond(t: &mut [u64], at: usize, cond: Option<Condition>)
     requires { at < 2 ^ 63 }
     ensures { t.new ≡ sets t.old at (cond_words cond) }
 {
     match cond {
-        Cond::None => {
-            let words = [0, 0, 0, 0];
-            put_words(t, at, &words);
-        }
-        Cond::Some { id, value } => {
-            let start = wide(id.start);
-            let end = wide(id.end);
-            let words = [1, start, end, value];
-            put_words(t, at, &words);
-        }
+        None => put_words(t, at, &[0, 0, 0, 0]),
+        Some(Condition { id, value }) => put_words(
+            t,
+            at,
+            &[1, id.start as u64, id.end as u64, value],
+        ),
     }
 }
 
@@ -703,16 +654,14 @@ pub fn put_field(values: &mut [u64], at: usize, f: Field)
     if values.len() / 17 < e {
         return;
     }
-    let desc = f.desc;
-    let cond = f.cond;
-    put_number(values, e * 17, wide(f.key));
-    put_desc(values, e * 17 + 1, desc);
-    put_cond(values, e * 17 + 13, cond);
+    put_number(values, e * 17, f.key as u64);
+    put_desc(values, e * 17 + 1, f.desc);
+    put_cond(values, e * 17 + 13, f.cond);
 }
 
 // ---- writing a declaration
 
-fn put_parent(t: &mut [u64], at: usize, kind: u64, parent_id: MaybePart)
+fn put_parent(t: &mut [u64], at: usize, kind: u64, parent_id: Option<Part>)
     requires { at < 2 ^ 62 }
     ensures { t.new ≡ sets t.old at (kind ∷ maybe_part_words parent_id) }
 {
@@ -725,12 +674,9 @@ fn put_decl_desc(t: &mut [u64], at: usize, desc: DeclDesc)
     ensures { t.new ≡ sets t.old at (decl_desc_words desc) }
 {
     match desc {
-        DeclDesc::Checksum { width } => {
-            let words = [0, width, 0, 0];
-            put_words(t, at, &words);
-        }
+        DeclDesc::Checksum { width } => put_words(t, at, &[DECL_CHECKSUM, width, 0, 0]),
         DeclDesc::CustomField { width } => {
-            put_number(t, at, 1);
+            put_number(t, at, DECL_CUSTOM_FIELD);
             put_maybe(t, at + 1, width);
             put_number(t, at + 3, 0);
         }
@@ -738,43 +684,30 @@ fn put_decl_desc(t: &mut [u64], at: usize, desc: DeclDesc)
             width,
             open,
             complete,
-        } => {
-            let words = [2, width, bit_word(open), bit_word(complete)];
-            put_words(t, at, &words);
-        }
-        DeclDesc::Packet { parent_id } => put_parent(t, at, 3, parent_id),
-        DeclDesc::Struct { parent_id } => put_parent(t, at, 4, parent_id),
+        } => put_words(
+            t,
+            at,
+            &[DECL_ENUM, width, bit_word(open), bit_word(complete)],
+        ),
+        DeclDesc::Packet { parent_id } => put_parent(t, at, DECL_PACKET, parent_id),
+        DeclDesc::Struct { parent_id } => put_parent(t, at, DECL_STRUCT, parent_id),
     }
 }
 
-fn put_stated(t: &mut [u64], at: usize, bits: MaybeSize)
+fn put_stated(t: &mut [u64], at: usize, bits: Option<Size>)
     requires { at < 2 ^ 63 }
     ensures { t.new ≡ sets t.old at (stated_words bits) }
 {
     match bits {
-        MaybeSize::None => {
-            let words = [0, 0];
-            put_words(t, at, &words);
-        }
-        MaybeSize::Some(size) => match size {
-            Size::Static(n) => {
-                let words = [1, n];
-                put_words(t, at, &words);
-            }
-            Size::Dynamic => {
-                let words = [2, 0];
-                put_words(t, at, &words);
-            }
-            Size::Unknown => {
-                let words = [3, 0];
-                put_words(t, at, &words);
-            }
-        },
+        None => put_words(t, at, &[0, 0]),
+        Some(Size::Static(n)) => put_words(t, at, &[1, n]),
+        Some(Size::Dynamic) => put_words(t, at, &[2, 0]),
+        Some(Size::Unknown) => put_words(t, at, &[3, 0]),
     }
 }
 
 // What a declaration has behind its name.
-fn put_behind(t: &mut [u64], at: usize, desc: DeclDesc, bits: MaybeSize)
+fn put_behind(t: &mut [u64], at: usize, desc: DeclDesc, bits: Option<Size>)
     requires { at < 2 ^ 62 }
     ensures { t.new ≡ sets t.old at (decl_desc_words desc ++ stated_words bits) }
 {
@@ -789,11 +722,11 @@ pub fn put_decl(rows: &mut [u64], i: usize, d: Decl, count: usize)
     if rows.len() / 13 < i {
         return;
     }
-    let id = d.id;
-    let bits = d.bits;
-    let desc = d.desc;
-    let words = [wide(d.key), wide(id.start), wide(id.end)];
-    put_words(rows, i * 13, &words);
-    put_behind(rows, i * 13 + 3, desc, bits);
-    put_number(rows, i * 13 + 9, wide(count));
+    put_words(
+        rows,
+        i * 13,
+        &[d.key as u64, d.id.start as u64, d.id.end as u64],
+    );
+    put_behind(rows, i * 13 + 3, d.desc, d.bits);
+    put_number(rows, i * 13 + 9, count as u64);
 }

@@ -1,27 +1,27 @@
 -- One section: the target line, the lines that the plan tells, and 19 by their length, which the two places give exactly, since no record is long.
 -- Assumes nothing.
+use Rattle.std.specs.Prelude.{Ok, Err}
+use Rattle.definitions.specs.Refusals.{Verdict}
 use mathlib.Core.Bool.{Bool, true, false}
 use mathlib.Core.List.{List, ◌++◌}
 use mathlib.Core.Path.{◌≡◌, refl, sym, ap, ◌∙◌, subst}
 use Prim.Native.Nat.{ℕ, ◌+◌, ◌*◌, ◌-◌, ◌≤◌, ◌<◌, ◌^◌}
-use native.Mathlib.Decide.{dec_lt}
 use native.Mathlib.Nat.{add-zero, sub-zero}
 use native.Mathlib.Omega.{arith}
 use borrow.Author.Tests.{le-ltb, lt-ltb, ltb-false}
 use lib.Dec.{ltb}
 use lib.ListN.{length, length-append, length-take, length-drop, drop}
-use lib.Seq.{sets}
 use Rattle.definitions.specs.Bytes.{Text, text, part}
 use Rattle.definitions.specs.Sizes.{annotate_fields}
 use Rattle.definitions.specs.All.{target_line}
 use Rattle.definitions.specs.declared.Options.{Options}
 use Rattle.definitions.specs.declared.Part.{Part}
 use Rattle.definitions.specs.declared.Refusal.{Refusal}
-use Rattle.definitions.specs.declared.Verdict.{Verdict}
-use Rattle.text.specs.Put.{Put, after}
-use Rattle.text.proofs.Puts.{chain, kept}
+use Rattle.text.specs.Wrote.{Wrote}
+use Rattle.text.specs.declared.Writer.{Writer}
+use Rattle.text.proofs.Wrotes.{then}
 use Rattle.stream.specs.Stream.{fresh}
-use Rattle.tables.specs.Tables.{fields_from, decl_here, count_here, Tables, rows_of, fields_of}
+use Rattle.tables.specs.Tables.{fields_from, decl_here, count_here, Tables, tables_of, rows_of, fields_of}
 use Rattle.schema.specs.Entries.{entry_in}
 use Rattle.emits.specs.Target.{setting_at, rest_at, Fine}
 use Rattle.plans.specs.Planned.{Planned, plans_of}
@@ -30,125 +30,61 @@ use Rattle.plans.specs.Plans.{plans_from, Sound}
 use Rattle.plans.specs.declared.PlanAt.{PlanAt}
 use Rattle.planner.specs.Entries.{Entries}
 use Rattle.planner.proofs.Stands.{is-plan}
-use Rattle.parser.specs.Driver.{TellsBy, Tells}
-use Rattle.parser.specs.declared.Lowered.{Lowered}
-use Rattle.targets.specs.Told.{limited_by, section_told, limited_at, entry_told}
+use Rattle.parser.specs.Driver.{Tells}
+use Rattle.targets.specs.Told.{limited_by, section_told, entry_told}
 
 -- ---- 19
 
 module _ (v : Verdict) (n : ℕ) where
-  by-refused : {why : Refusal} → v ≡ Verdict.Refuse why → limited_by v n ≡ Verdict.Refuse why
+  by-refused : {why : Refusal} → v ≡ Err why → limited_by v n ≡ Err why
   unfolding limited_by
-  by-refused {why} e = subst (λ (x : Verdict). limited_by x n ≡ Verdict.Refuse why) (sym e) refl
+  by-refused {why} e = subst (λ (x : Verdict). limited_by x n ≡ Err why) (sym e) refl
 
   -- of lines that pass
   abbrev on_test : Bool → Verdict
-  on_test b = elim b [ true ↦ Verdict.Refuse Refusal.SectionTooLong | false ↦ Verdict.Pass ]
+  on_test b = elim b [ true ↦ Err Refusal.SectionTooLong | false ↦ Ok tt ]
 
-  by-test : v ≡ Verdict.Pass → {b : Bool} → ltb 8192 n ≡ b → limited_by v n ≡ on_test b
+  by-test : v ≡ Ok tt → {b : Bool} → ltb 8192 n ≡ b → limited_by v n ≡ on_test b
   unfolding limited_by
   by-test e {b} h = subst (λ (x : Verdict). limited_by x n ≡ on_test b) (sym e) (ap on_test h)
 
--- `limited`, by its exits
-module _ (l : Lowered) (from at : ℕ) where
-  abbrev on_verdict : Verdict → Lowered
-  on_verdict v = elim v [ Verdict.Pass ↦ l | Verdict.Refuse why ↦ record { verdict = Verdict.Refuse why; at = at } ]
-
-  pub limited-refused : {why : Refusal} → l.verdict ≡ Verdict.Refuse why → record { verdict = Verdict.Refuse why; at = at } ≡ limited_at l from at
-  limited-refused e = sym (ap on_verdict (by-refused l.verdict (l.at - from) e))
-
-  limited-test : l.verdict ≡ Verdict.Pass → {b : Bool} → ltb 8192 (l.at - from) ≡ b
-      → limited_at l from at ≡ on_verdict (on_test l.verdict (l.at - from) b)
-  limited-test e h = ap on_verdict (by-test l.verdict (l.at - from) e h)
-
-  pub limited-long : l.verdict ≡ Verdict.Pass → 8192 < l.at - from
-      → record { verdict = Verdict.Refuse Refusal.SectionTooLong; at = at } ≡ limited_at l from at
-  limited-long e w = sym (limited-test e (lt-ltb 8192 (l.at - from) w))
-
-  pub limited-short : l.verdict ≡ Verdict.Pass → l.at - from ≤ 8192 → l ≡ limited_at l from at
-  limited-short e w = sym (limited-test e (le-ltb 8192 (l.at - from) w))
-
-pub limited-pass : (v : Verdict) (n : ℕ) → limited_by v n ≡ Verdict.Pass → (v ≡ Verdict.Pass) × (n ≤ 8192)
+pub limited-pass : (v : Verdict) (n : ℕ) → limited_by v n ≡ Ok tt → (v ≡ Ok tt) × (n ≤ 8192)
 unfolding limited_by
-limited-pass (Verdict.Refuse why) n e = absurd (let z : ◌≡◌ {A = ℕ} 0 1 = cc in omega arith)
-limited-pass Verdict.Pass n e = (refl, by (ltb 8192 n) refl e)
+limited-pass (Err why) n e = absurd (let z : ◌≡◌ {A = ℕ} 0 1 = cc in omega arith)
+limited-pass (Ok _) n e = (refl, by (ltb 8192 n) refl e)
   where
-    by : (b : Bool) → ltb 8192 n ≡ b → on_test Verdict.Pass n b ≡ Verdict.Pass → n ≤ 8192
+    by : (b : Bool) → ltb 8192 n ≡ b → on_test (Ok tt) n b ≡ Ok tt → n ≤ 8192
     by true h k = absurd (let z : ◌≡◌ {A = ℕ} 0 1 = cc in omega arith)
     by false h k = ltb-false 8192 n h
 
 -- ---- a target line and what a plan tells behind it
 
--- bytes behind what was put
-pub written_behind : (b : Text) {l m x a : Text} {i r : ℕ} → Put l i a r m → x ≡ sets m r b → x ≡ sets l i (a ++ b)
-written_behind b {r} p w =
-    (chain {s = after r (length b)} p (record { room = omega (arith, p.room, kept p); next = refl; written = w })).written
-
-module _ (name : Text) (d : Told) {out mid left : Text} {at from : ℕ} {l : Lowered}
-    (line : Put out at (target_line name) from mid) (tells : Tells d mid from l left) where
+module _ (name : Text) (d : Told) {u m v : Writer} {x : Verdict} (line : Wrote u m (target_line name)) (tells : Tells d m v x) where
   -- the lines follow the target line, refused or not
-  all-written : left ≡ sets out at (target_line name ++ d.lines)
-  all-written = by d.verdict tells.wrote
-    where
-      by : (v : Verdict) → TellsBy v d.lines mid from l left → left ≡ sets out at (target_line name ++ d.lines)
-      by Verdict.Pass w = (chain line w).written
-      by (Verdict.Refuse why) w = written_behind d.lines line w.1
+  lines : Wrote u v (target_line name ++ d.lines)
+  lines = then line tells.wrote
 
-  pub lines-behind : from ≤ l.at
-  lines-behind = by d.verdict tells.wrote
-    where
-      by : (v : Verdict) → TellsBy v d.lines mid from l left → from ≤ l.at
-      by Verdict.Pass w = omega (arith, w.next)
-      by (Verdict.Refuse why) w = omega (arith, w.0)
+  pub lines-behind : m.at ≤ v.at
+  lines-behind = omega (arith, tells.wrote.put.next)
 
-  -- the two places are so far apart as the lines are long, or both more than 8,192
-  same_test : d.verdict ≡ Verdict.Pass → from ≤ 2 ^ 33 → ltb 8192 (l.at - from) ≡ ltb 8192 (length d.lines)
-  same_test e w = elim (dec_lt 8192 (length d.lines)) [
-    | yes long ↦ lt-ltb 8192 (l.at - from) (omega (arith, long, w, wrote.next)) ∙ sym (lt-ltb 8192 (length d.lines) long)
-    | no short ↦ le-ltb 8192 (l.at - from) (omega (arith, short, w, wrote.next)) ∙ sym (le-ltb 8192 (length d.lines) (omega (arith, short)))
-  ]
-    where
-      wrote : Put mid from d.lines l.at left
-      wrote = subst (λ (v : Verdict). TellsBy v d.lines mid from l left) e tells.wrote
+  pub section-refused : {why : Refusal} → x ≡ Err why → Tells (section_told name d) u v (Err why)
+  section-refused e = record { verdict_is = sym (by-refused d.verdict (length d.lines) (sym tells.verdict_is ∙ e)); wrote = lines }
 
-  pub section-tells : from ≤ 2 ^ 33 → {r : Lowered} → r ≡ limited_at l from at → Tells (section_told name d) out at r left
-  section-tells w {r} e = by d.verdict refl
-    where
-      -- refused: by the target's own, or by 19
-      turned : (v : Verdict) (why : Refusal) → limited_by d.verdict (length d.lines) ≡ v → v ≡ Verdict.Refuse why
-          → r ≡ record { verdict = Verdict.Refuse why; at = at } → Tells (section_told name d) out at r left
-      turned v why g f q = record {
-        verdict_is = ap (λ (x : Lowered). x.verdict) q ∙ sym (g ∙ f);
-        wrote =
-            subst (λ (x : Verdict). TellsBy x (target_line name ++ d.lines) out at r left) (sym (g ∙ f))
-            (ap (λ (x : Lowered). x.at) q, all-written);
-      }
+  module _ (e : x ≡ Ok tt) (w : m.at ≤ 2 ^ 33) where
+    passed : d.verdict ≡ Ok tt
+    passed = sym tells.verdict_is ∙ e
 
-      passes : d.verdict ≡ Verdict.Pass → (b : Bool) → ltb 8192 (length d.lines) ≡ b → Tells (section_told name d) out at r left
-      passes g true k =
-          turned (Verdict.Refuse Refusal.SectionTooLong) Refusal.SectionTooLong (by-test d.verdict (length d.lines) g k) refl
-          (e ∙ limited-test l from at (tells.verdict_is ∙ g) (same_test g w ∙ k))
-      passes g false k = record {
-        verdict_is = ap (λ (x : Lowered). x.verdict) same ∙ tells.verdict_is ∙ g ∙ sym none;
-        wrote =
-            subst (λ (x : Verdict). TellsBy x (target_line name ++ d.lines) out at r left) (sym none)
-            (subst (λ (x : Lowered). Put out at (target_line name ++ d.lines) x.at left) (sym same) (chain line wrote));
-      }
-        where
-          none : limited_by d.verdict (length d.lines) ≡ Verdict.Pass
-          none = by-test d.verdict (length d.lines) g k
+    pub section-long : 8192 < v.at - m.at → Tells (section_told name d) u v (Err Refusal.SectionTooLong)
+    section-long h = record {
+      verdict_is = sym (by-test d.verdict (length d.lines) passed (lt-ltb 8192 (length d.lines) (omega (arith, h, w, tells.wrote.put.next))));
+      wrote = lines;
+    }
 
-          same : r ≡ l
-          same = e ∙ limited-test l from at (tells.verdict_is ∙ g) (same_test g w ∙ k)
-
-          wrote : Put mid from d.lines l.at left
-          wrote = subst (λ (v : Verdict). TellsBy v d.lines mid from l left) g tells.wrote
-
-      by : (v : Verdict) → d.verdict ≡ v → Tells (section_told name d) out at r left
-      by Verdict.Pass g = passes g (ltb 8192 (length d.lines)) refl
-      by (Verdict.Refuse why) g =
-          turned (Verdict.Refuse why) why (by-refused d.verdict (length d.lines) g) refl
-          (e ∙ sym (limited-refused l from at (tells.verdict_is ∙ g)))
+    pub section-short : v.at - m.at ≤ 8192 → Tells (section_told name d) u v (Ok tt)
+    section-short h = record {
+      verdict_is = sym (by-test d.verdict (length d.lines) passed (le-ltb 8192 (length d.lines) (omega (arith, h, w, tells.wrote.put.next))));
+      wrote = lines;
+    }
 
 -- ---- the section of a declaration of the tables
 
@@ -168,44 +104,70 @@ rest_all t i =
 pub fine-count : (t : Tables) (i : ℕ) {n : ℕ} → n ≡ count_here t.rows i → Fine t i (count_here t.rows i) → Fine t i n
 fine-count t i e fine = subst (λ (m : ℕ). Fine t i m) (sym e) fine
 
-pub count-sound : (t : Tables) (i : ℕ) (o : Options) {n : ℕ} → n ≡ count_here t.rows i → Fine t i (count_here t.rows i)
+pub count-sound : (t : Tables) (i : ℕ) (o : Options) {source rows values fields : List ℕ} → t ≡ tables_of source rows values fields
+    → {n : ℕ} → n ≡ count_here rows i → Fine t i (count_here t.rows i)
     → {plan : List PlanAt} → Entries t i n o plan → (n ≤ 64) × Sound plan n
-count-sound t i o e fine entries =
-    let f = fine-count t i e fine in
+count-sound t i o seen e fine entries =
+    let f = fine-count t i (e ∙ ap (λ (a : Tables). count_here a.rows i) (sym seen)) fine in
     (f.few, (is-plan f entries).sound)
 
 module _ (t : Tables) (i : ℕ) (o : Options) where
   abbrev count : ℕ
   count = count_here t.rows i
 
-  module _ (short : length t.source ≤ 16384) {at : ℕ} (w : at ≤ 2 ^ 32) (fine : Fine t i count) {n : ℕ} (en : n ≡ count)
-      {plan : List PlanAt} (entries : Entries t i n o plan) {id : Part} (ei : id ≡ (decl_here t.rows i).id)
-      {name : Text} (ename : name ≡ part t.source id)
-      {out mid left : Text} {from : ℕ} (line : Put out at (text "// target=" ++ (name ++ text "\n")) from mid)
-      {l : Lowered} (tells : (bits : Part → ℕ) → Tells (tell o fresh (plans_from o t.source bits plan 0 n)) mid from l left) where
+  -- `source` and `rows` are the slices that the tables lend
+  module _ {source rows values fields : List ℕ} (seen : t ≡ tables_of source rows values fields)
+      (short : length t.source ≤ 16384) {u : Writer} (w : u.at ≤ 2 ^ 32) (fine : Fine t i count) {n : ℕ} (counted : n ≡ count_here rows i)
+      {plan : List PlanAt} (entries : Entries t i n o plan) {id : Part} (ided : id ≡ (decl_here rows i).id)
+      {name : Text} (spelled : name ≡ part source id)
+      {m v : Writer} (line : Wrote u m (text "// target=" ++ (name ++ text "\n")))
+      {x : Verdict} (lowered : (bits : Part → ℕ) → Tells (tell o fresh (plans_from o source bits plan 0 n)) m v x) where
+    en : n ≡ count
+    en = counted ∙ ap (λ (a : Tables). count_here a.rows i) (sym seen)
+
+    ei : id ≡ (decl_here t.rows i).id
+    ei = ided ∙ ap (λ (a : Tables). (decl_here a.rows i).id) (sym seen)
+
+    ename : name ≡ part t.source id
+    ename = spelled ∙ ap (λ (a : Tables). part a.source id) (sym seen)
+
+    tells : (bits : Part → ℕ) → Tells (tell o fresh (plans_from o t.source bits plan 0 n)) m v x
+    tells bits = subst (λ (a : Tables). Tells (tell o fresh (plans_from o a.source bits plan 0 n)) m v x) (sym seen) (lowered bits)
+
     abbrev d : Told
     d = tell o fresh (plans_of (setting_at t i count o) (entry_in t.source t.rows t.values t.fields i).fields)
 
-    told : Tells d mid from l left
+    told : Tells d m v x
     told =
         subst
-        (λ (m : ℕ). Entries t i m o plan → ((bits : Part → ℕ) → Tells (tell o fresh (plans_from o t.source bits plan 0 m)) mid from l left)
-        → Tells d mid from l left)
+        (λ (k : ℕ). Entries t i k o plan → ((bits : Part → ℕ) → Tells (tell o fresh (plans_from o t.source bits plan 0 k)) m v x)
+        → Tells d m v x)
         (sym en)
         (λ k a.
-        subst (λ (ps : List Planned). Tells (tell o fresh ps) mid from l left)
+        subst (λ (ps : List Planned). Tells (tell o fresh ps) m v x)
         ((is-plan fine k).stands ∙ ap (plans_of (setting_at t i count o)) (rest_all t i)) (a _))
         entries tells
 
     same-name : name ≡ part t.source (decl_here t.rows i).id
     same-name = ename ∙ ap (part t.source) ei
 
-    pub from-behind : from ≤ l.at
+    near : m.at ≤ 2 ^ 33
+    near = omega (arith, line.put.next, w, short, short-part t.source id, ap length ename, length-append name (text "\n"))
+
+    abbrev Section : Verdict → Type 0
+    Section y = Tells (entry_told t.source o (entry_in t.source t.rows t.values t.fields i)) u v y
+
+    named : {y : Verdict} → Tells (section_told name d) u v y → Section y
+    named {y} = subst (λ (a : Text). Tells (section_told a d) u v y) same-name
+
+    pub from-behind : m.at ≤ v.at
     from-behind = lines-behind name d line told
 
-    pub put-section-tells : {r : Lowered} → r ≡ limited_at l from at
-        → Tells (entry_told t.source o (entry_in t.source t.rows t.values t.fields i)) out at r left
-    put-section-tells {r} e =
-        subst (λ (x : Text). Tells (section_told x d) out at r left) same-name
-        (section-tells name d line told
-        (omega (arith, line.next, w, short, short-part t.source id, ap length ename, length-append name (text "\n"))) e)
+    pub put-refused : {why : Refusal} → x ≡ Err why → Section (Err why)
+    put-refused e = named (section-refused name d line told e)
+
+    pub put-long : x ≡ Ok tt → 8192 < v.at - m.at → Section (Err Refusal.SectionTooLong)
+    put-long e h = named (section-long name d line told e near h)
+
+    pub put-short : x ≡ Ok tt → v.at - m.at ≤ 8192 → Section (Ok tt)
+    put-short e h = named (section-short name d line told e near h)

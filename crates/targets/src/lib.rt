@@ -1,97 +1,60 @@
-// All targets of a record (document 02, Card 13): for each packet and struct, in file order, its section, a line `// target=NAME` and its lines. A section is
-// written as `lower` writes its lines, by a plan of the target, and 19 looks at its length. On an empty buffer the same functions find the length of all.
+// All targets of a record: for each packet and struct, in file order, its section, a line `// target=NAME` and its lines. A section is written as `lower`
+// writes its lines, by a plan of the target, and 19 looks at its length. On an empty buffer the same functions find the length of all.
 #![tactic(auto)]
 
 ghost use Rattle.std.specs.Prelude.{◌≡◌, ◌≤◌, ◌^◌, length};
 ghost use Rattle.schema.specs.Entries.{entry_in, entries_from};
-ghost use Rattle.tables.specs.Tables.{Tables, tables_of, count_here};
+ghost use Rattle.tables.specs.Tables.{count_here};
 ghost use Rattle.emits.specs.Target.{Fine};
 ghost use Rattle.parser.specs.Driver.{Tells};
-ghost use Rattle.targets.specs.Told.{limited_at, entry_told, tell_each, AllFine};
+ghost use Rattle.targets.specs.Told.{entry_told, tell_each, SectionsTold, AllFine};
 
-use definitions::{Options, Refusal, Verdict};
-use parser::Lowered;
+use definitions::{Options, Refusal};
+use emits::Target;
+use tables::Tables;
+use text::Writer;
 
-// 19: the lines from `from` on, of a section from `at` on, have more than 8,192 bytes.
-fn limited(l: Lowered, from: usize, at: usize) -> Lowered
-    requires { from ≤ l.at }
-    ensures { result ≡ limited_at l from at }
-{
-    let verdict = l.verdict;
-    match verdict {
-        Verdict::Refuse(why) => Lowered {
-            verdict: Verdict::Refuse(why),
-            at,
-        },
-        Verdict::Pass => {
-            if 8192 < l.at - from {
-                return Lowered {
-                    verdict: Verdict::Refuse(Refusal::SectionTooLong),
-                    at,
-                };
-            }
-            l
-        }
-    }
-}
+// The most bytes that a section's lines may have, without its first line.
+const LONGEST_SECTION: usize = 8192;
 
 // The section of the declaration with the index i. On a refusal, what was written of it stays in the buffer.
-fn put_section(
-    rec: &[u8],
-    out: &mut [u8],
-    at: usize,
-    options: Options,
-    rows: &[u64],
-    values: &[u64],
-    fields: &[u16],
-    i: usize,
-) -> Lowered
-    requires { let t : Tables = tables_of rec.now rows.now values.now fields.now in
-        (length t.source ≤ 16384) × (at ≤ 2 ^ 32) × Fine t i (count_here t.rows i) }
-    ensures { let t : Tables = tables_of rec.now rows.now values.now fields.now in
-        Tells (entry_told t.source options (entry_in t.source t.rows t.values t.fields i)) out.old at result out.new }
+fn put_section(t: &Tables, w: &mut Writer, options: Options, i: usize) -> Result<(), Refusal>
+    requires { (length t.now.source ≤ 16384) × (w.old.at ≤ 2 ^ 32) × Fine t.now i (count_here t.now.rows i) }
+    ensures { Tells (entry_told t.now.source options (entry_in t.now.source t.now.rows t.now.values t.now.fields i)) w.old w.new result }
 {
-    let n = tables::count_here(rows, i);
-    let plan = planner::plan_target(rec, rows, values, fields, i, n, options);
-    let id = tables::id_here(rows, i);
-    let from = text::put_name(out, at, b"// target=", names::part(rec, id), b"\n");
-    let l = parser::lower_target(rec, out, from, options, plan, n);
-    limited(l, from, at)
+    let target = Target {
+        tables: t,
+        i,
+        n: tables::count_here(t.rows, i),
+        options,
+    };
+    let plan = planner::plan_target(&target);
+    let id = tables::id_here(t.rows, i);
+    w.name(b"// target=", names::part(t.source, id), b"\n");
+    let from = w.at;
+    parser::lower_target(t.source, w, options, plan, target.n)?;
+    if LONGEST_SECTION < w.at - from {
+        return Err(Refusal::SectionTooLong);
+    }
+    Ok(())
 }
 
-// The sections of n declarations, from the front of the buffer on. The first target that is refused ends it.
+// The sections of n declarations, from the front of the buffer on, and the place behind them. The first target that is refused ends it.
 pub fn put_sections(
-    rec: &[u8],
+    t: &Tables,
     out: &mut [u8],
     options: Options,
-    rows: &[u64],
-    values: &[u64],
-    fields: &[u16],
     n: usize,
-) -> Lowered
-    requires { let t : Tables = tables_of rec.now rows.now values.now fields.now in AllFine t n }
-    ensures { let t : Tables = tables_of rec.now rows.now values.now fields.now in
-        Tells (tell_each t.source options (entries_from t.source t.rows t.values t.fields 0 n)) out.old 0 result out.new }
+) -> Result<usize, Refusal>
+    requires { AllFine t.now n }
+    ensures { SectionsTold (tell_each t.now.source options (entries_from t.now.source t.now.rows t.now.values t.now.fields 0 n))
+        out.old result out.new }
 {
-    let mut at = 0;
-    let mut i = 0;
-    while i < n {
-        let d = tables::decl_here(rows, i);
-        let desc = d.desc;
-        if tables::is_frame(desc) {
-            let l = put_section(rec, out, at, options, rows, values, fields, i);
-            let verdict = l.verdict;
-            if parser::is_refused(verdict) {
-                return Lowered { verdict, at: 0 };
-            }
-            at = l.at;
-            i += 1;
-        } else {
-            i += 1;
+    let mut w = Writer { out, at: 0 };
+    for i in 0..n {
+        if tables::is_frame(tables::decl_here(t.rows, i).desc) {
+            put_section(t, &mut w, options, i)?;
         }
     }
-    Lowered {
-        verdict: Verdict::Pass,
-        at,
-    }
+    Ok(w.at)
 }

@@ -1,5 +1,5 @@
 -- The digits of a number, from those of its quotient by the base.
-use Prim.Native.Nat.{ℕ, zero, suc, ◌+◌, ◌/◌, ◌%◌, ◌≤◌, ◌<◌, ◌^◌}
+use Prim.Native.Nat.{ℕ, zero, suc, ◌/◌, ◌%◌, ◌≤◌, ◌<◌, ◌^◌}
 use mathlib.Core.List.{List, [], ◌∷◌, ◌++◌}
 use mathlib.Core.Path.{◌≡◌, sym, ap, ◌∙◌}
 use native.Mathlib.Decide.{dec_lt}
@@ -37,12 +37,6 @@ digits_low n base h = low 63 n base h
 pub digits-high : (n base : ℕ) → 2 ≤ base → base ≤ n → n < 2 ^ 64 → digits base n ≡ digits base (n / base) ++ (digit (n % base) ∷ [])
 digits-high n base two h k =
     high 63 n base h ∙ ap (λ (l : List ℕ). l ++ (digit (n % base) ∷ [])) (more 62 (n / base) base two (less 63 n base two k))
-
-pub digit_low : (n : ℕ) → n < 10 → 48 + n ≡ digit n
-digit_low n h = rw (lt-ltb n 10 h, digit)
-
-pub digit-high : (n : ℕ) → 10 ≤ n → 87 + n ≡ digit n
-digit-high n h = rw (le-ltb n 10 h, digit)
 
 pub last-digit : (n base d : ℕ) → 2 ≤ base → base ≤ n → n < 2 ^ 64 → d ≡ digit (n % base) → digits base (n / base) ++ (d ∷ []) ≡ digits base n
 last-digit n base d two h k e =

@@ -2,3 +2,4 @@ pub mod Puts
 pub mod Digits
 pub mod Table
 pub mod Widths
+pub mod Wrotes

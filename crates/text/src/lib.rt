@@ -1,6 +1,6 @@
-// Bytes and numbers written into a lent buffer (document 01, module 1): fixed C++ pieces, names, decimal and hexadecimal numbers; `mask`, and
-// `get_cxx_scalar_type` by a table (document 02, Card 4). Every writer says by `Put` which place comes next and what the buffer holds, for every
-// buffer and every place: the pass that only finds the length runs on an empty buffer.
+// Bytes and numbers written into a lent buffer: fixed C++ pieces, names, decimal and hexadecimal numbers; `mask`, and `get_cxx_scalar_type` by a
+// table. Every writer says by `Wrote` which place comes next and what the buffer holds, for every buffer and every place: the pass that only finds
+// the length runs on an empty buffer.
 #![tactic(auto)]
 
 ghost use Rattle.std.specs.Prelude.{◌≡◌, ◌∷◌, [], ◌++◌, ◌-◌, ◌≤◌, ◌<◌, min};
@@ -9,69 +9,85 @@ ghost use Rattle.definitions.specs.Blocks.{mask as mask_of};
 ghost use Rattle.text.specs.Put.{Put, after};
 ghost use Rattle.text.specs.Widths.{scalar_type_of};
 
-// The backing type of a width, by its bits; more than 64 bits have none (refusal 12).
-#[derive(Clone, Copy)]
-pub enum ScalarType {
-    Bits(u64),
-    TooWide,
-}
-
 // The place n bytes after at, and 2^63 where that is further: no slice is so long.
 fn moved(at: usize, n: usize) -> usize
     ensures { result ≡ after at n }
 {
-    if 0x8000_0000_0000_0000 <= at {
-        return at;
-    }
-    if 0x8000_0000_0000_0000 <= n {
-        return 0x8000_0000_0000_0000;
-    }
-    if 0x8000_0000_0000_0000 - n <= at {
-        return 0x8000_0000_0000_0000;
-    }
-    at + n
+    at.max(at.saturating_add(n).min(0x8000_0000_0000_0000))
 }
 
-// How many of n bytes from at on are inside a buffer of so many.
-fn inside(room: usize, at: usize, n: usize) -> usize
-    ensures { result ≡ min n (room - at) }
-{
-    if room <= at {
-        return 0;
-    }
-    if n <= room - at {
-        return n;
-    }
-    room - at
+// A buffer that is written, and the place that comes next.
+#[derive(Drop)]
+pub struct Writer<'a> {
+    pub out: &'a mut [u8],
+    pub at: usize,
 }
 
-// A piece from at on, as far as it is inside out.
-pub fn put(out: &mut [u8], at: usize, piece: &[u8]) -> usize
-    ensures { Put out.old at piece.now result out.new }
-{
-    let n = inside(out.len(), at, piece.len());
-    let mut i = 0;
-    while i < n {
-        out[at + i] = piece[i];
-        i += 1;
+impl<'a> Writer<'a> {
+    ghost use Rattle.text.specs.Wrote.{Wrote};
+
+    // A piece, as far as it is inside the buffer.
+    pub fn put(&mut self, piece: &[u8])
+        ensures { Wrote self.old self.new piece.now }
+    {
+        let start = self.at.min(self.out.len());
+        let n = piece.len().min(self.out.len() - start);
+        self.out[start..start + n].copy_from_slice(&piece[..n]);
+        self.at = moved(self.at, piece.len());
     }
-    moved(at, piece.len())
-}
 
-fn put_byte(out: &mut [u8], at: usize, b: u8) -> usize
-    ensures { Put out.old at (b ∷ []) result out.new }
-{
-    let one = [b];
-    put(out, at, &one)
-}
+    // One byte. It has a function of its own, since numbers are written byte by byte, and a copy of one byte is a call.
+    fn byte(&mut self, b: u8)
+        ensures { Wrote self.old self.new (b ∷ []) }
+    {
+        if self.out.len() <= self.at {
+            self.at = moved(self.at, 1);
+            return;
+        }
+        self.out[self.at] = b;
+        self.at += 1;
+    }
 
-// A name, or another piece, between two pieces.
-pub fn put_name(out: &mut [u8], at: usize, before: &[u8], name: &[u8], behind: &[u8]) -> usize
-    ensures { Put out.old at (before.now ++ (name.now ++ behind.now)) result out.new }
-{
-    let p = put(out, at, before);
-    let q = put(out, p, name);
-    put(out, q, behind)
+    // A name, or another piece, between two pieces.
+    pub fn name(&mut self, before: &[u8], name: &[u8], behind: &[u8])
+        ensures { Wrote self.old self.new (before.now ++ (name.now ++ behind.now)) }
+    {
+        self.put(before);
+        self.put(name);
+        self.put(behind);
+    }
+
+    // The digits of a number, the first one first.
+    fn digits(&mut self, n: u64, base: u64)
+        requires { (2 ≤ base) × (base ≤ 16) }
+        ensures { Wrote self.old self.new (digits base n) }
+    {
+        if n < base {
+            self.byte(digit_of(n));
+            return;
+        }
+        self.digits(n / base, base);
+        self.byte(digit_of(n % base));
+    }
+
+    // `{}`: a number between two pieces.
+    pub fn number(&mut self, before: &[u8], n: u64, behind: &[u8])
+        ensures { Wrote self.old self.new (before.now ++ (decimal n ++ behind.now)) }
+    {
+        self.put(before);
+        self.digits(n, 10);
+        self.put(behind);
+    }
+
+    // `{:#x}`: a number between two pieces.
+    pub fn hexadecimal(&mut self, before: &[u8], n: u64, behind: &[u8])
+        ensures { Wrote self.old self.new (before.now ++ (hexadecimal n ++ behind.now)) }
+    {
+        self.put(before);
+        self.put(b"0x");
+        self.digits(n, 16);
+        self.put(behind);
+    }
 }
 
 fn digit_of(n: u64) -> u8
@@ -79,40 +95,45 @@ fn digit_of(n: u64) -> u8
     ensures { result ≡ digit n }
 {
     if n < 10 {
-        return 48 + n as u8;
+        return b'0' + n as u8;
     }
-    87 + n as u8
+    b'a' + (n - 10) as u8
 }
 
-// The digits of a number, the first one first.
-fn put_digits(out: &mut [u8], at: usize, n: u64, base: u64) -> usize
-    requires { (2 ≤ base) × (base ≤ 16) }
-    ensures { Put out.old at (digits base n) result out.new }
+// A piece from at on, as far as it is inside out.
+pub fn put(out: &mut [u8], at: usize, piece: &[u8]) -> usize
+    ensures { Put out.old at piece.now result out.new }
 {
-    if n < base {
-        return put_byte(out, at, digit_of(n));
-    }
-    let next = put_digits(out, at, n / base, base);
-    put_byte(out, next, digit_of(n % base))
+    let mut w = Writer { out, at };
+    w.put(piece);
+    w.at
+}
+
+// A name, or another piece, between two pieces.
+pub fn put_name(out: &mut [u8], at: usize, before: &[u8], name: &[u8], behind: &[u8]) -> usize
+    ensures { Put out.old at (before.now ++ (name.now ++ behind.now)) result out.new }
+{
+    let mut w = Writer { out, at };
+    w.name(before, name, behind);
+    w.at
 }
 
 // `{}`: a number between two pieces.
 pub fn put_number(out: &mut [u8], at: usize, before: &[u8], n: u64, behind: &[u8]) -> usize
     ensures { Put out.old at (before.now ++ (decimal n ++ behind.now)) result out.new }
 {
-    let p = put(out, at, before);
-    let q = put_digits(out, p, n, 10);
-    put(out, q, behind)
+    let mut w = Writer { out, at };
+    w.number(before, n, behind);
+    w.at
 }
 
 // `{:#x}`: a number between two pieces.
 pub fn put_hexadecimal(out: &mut [u8], at: usize, before: &[u8], n: u64, behind: &[u8]) -> usize
     ensures { Put out.old at (before.now ++ (hexadecimal n ++ behind.now)) result out.new }
 {
-    let p = put(out, at, before);
-    let q = put(out, p, b"0x");
-    let r = put_digits(out, q, n, 16);
-    put(out, r, behind)
+    let mut w = Writer { out, at };
+    w.hexadecimal(before, n, behind);
+    w.at
 }
 
 // `mask`: so many bits, at most 64, all 1.
@@ -138,12 +159,12 @@ const SCALAR_TYPES: [u8; 65] = [
     64, 64, 64, 64, 64, 64, 64, // 64
 ];
 
-// `get_cxx_scalar_type`
-pub fn get_cxx_scalar_type(width: u64) -> ScalarType
+// `get_cxx_scalar_type`: the bits of the backing type of a width. More than 64 bits have none, and are refused.
+pub fn get_cxx_scalar_type(width: u64) -> Option<u64>
     ensures { result ≡ scalar_type_of width }
 {
     if 64 < width {
-        return ScalarType::TooWide;
+        return None;
     }
-    ScalarType::Bits(SCALAR_TYPES[width as usize] as u64)
+    Some(SCALAR_TYPES[width as usize] as u64)
 }

@@ -1,5 +1,6 @@
 -- What a typedef and a payload come to with their names as parts of the record is what they come to by the definitions on an octet boundary.
 -- Assumes nothing.
+use Rattle.std.specs.Prelude.{Option, Some, None}
 use Prim.Native.Nat.{ℕ, ◌/◌}
 use mathlib.Core.Bool.{Bool, true, false}
 use mathlib.Core.List.{List}
@@ -11,7 +12,6 @@ use Rattle.definitions.specs.Blocks.{named, Block}
 use Rattle.definitions.specs.FieldParser.{Setting, Emit, appends, get_trailing_size, size_backing}
 use Rattle.definitions.specs.FieldParser.{typedef_block, typedef_by_size, parse_typedef_field, unsized_payload, payload_name, payload_by_size, parse_payload_field_lite}
 use Rattle.definitions.specs.FieldParser as parser
-use Rattle.definitions.specs.declared.MaybeNumber.{MaybeNumber}
 use Rattle.definitions.specs.declared.Modifier.{Modifier}
 use Rattle.definitions.specs.declared.Part.{Part}
 use Rattle.definitions.specs.declared.Size.{Size}
@@ -25,7 +25,7 @@ module _ (c : Setting) where
   abbrev emit : EmitAt → Emit
   emit e = emit_of c.source (text "payload") c.options (λ id. size_backing c.source id c.fields) e
 
-  abbrev bits_behind : List Annotated → MaybeNumber
+  abbrev bits_behind : List Annotated → Option ℕ
   bits_behind later = get_trailing_size c.options.trailing later
 
   -- ---- a typedef
@@ -39,10 +39,10 @@ module _ (c : Setting) where
   typedef-picked id type bits true = refl
   typedef-picked id type bits false = refl
 
-  typedef-trailing : (id type : Part) (trailing : MaybeNumber)
+  typedef-trailing : (id type : Part) (trailing : Option ℕ)
       → emit (typedef_up_to id type trailing) ≡ parser.on_trailing trailing (λ bits. appends (typedef_block c id type bits))
-  typedef-trailing id type MaybeNumber.None = refl
-  typedef-trailing id type (MaybeNumber.Some bits) = typedef-picked id type bits (ltb 0 bits)
+  typedef-trailing id type None = refl
+  typedef-trailing id type (Some bits) = typedef-picked id type bits (ltb 0 bits)
 
   typedef-sized : (id type : Part) (later : List Annotated) (z : Size) → emit (typedef_at id type (bits_behind later) z) ≡ typedef_by_size c id type later z
   unfolding block_of
@@ -64,10 +64,10 @@ module _ (c : Setting) where
   payload-picked bits true = refl
   payload-picked bits false = refl
 
-  payload-trailing : (trailing : MaybeNumber)
+  payload-trailing : (trailing : Option ℕ)
       → emit (unsized_at trailing) ≡ parser.on_trailing trailing (λ bits. appends (unsized_payload (payload_name c (text "_")) bits))
-  payload-trailing MaybeNumber.None = refl
-  payload-trailing (MaybeNumber.Some bits) = payload-picked bits (ltb 0 bits)
+  payload-trailing None = refl
+  payload-trailing (Some bits) = payload-picked bits (ltb 0 bits)
 
   payload-sized : (modifier : Modifier) (later : List Annotated) (b : Bool)
       → emit (payload_at modifier b (bits_behind later)) ≡ payload_by_size c modifier later b

@@ -1,4 +1,3 @@
 pub mod Trailing
-pub mod Arms
 pub mod Agree
 pub mod Fits

@@ -1,5 +1,6 @@
 -- What a later field counts, and the sum over all of them, turn by turn.
 -- Assumes nothing.
+use Rattle.std.specs.Prelude.{Option, Some, None}
 use Prim.Native.Nat.{ℕ, ◌+◌, ◌*◌, ◌≤◌, ◌<◌, ◌^◌}
 use mathlib.Core.Bool.{Bool, true, false}
 use mathlib.Core.List.{List, ◌∷◌}
@@ -11,7 +12,6 @@ use Rattle.definitions.specs.Sizes.{Annotated, outer_size}
 use Rattle.definitions.specs.Refusals.{large_size}
 use Rattle.definitions.specs.FieldParser.{is_array_field, later_size, trailing_from}
 use Rattle.definitions.specs.declared.Field.{Field}
-use Rattle.definitions.specs.declared.MaybeNumber.{MaybeNumber}
 use Rattle.definitions.specs.declared.Size.{Size}
 use Rattle.definitions.specs.declared.Trailing.{Trailing}
 use Rattle.bits.specs.Capped.{capped_number}
@@ -21,10 +21,7 @@ use Rattle.trailing.specs.Values.{static_number}
 use Rattle.emits.proofs.Rests.{rest_end, rest-step}
 use Rattle.emits.proofs.Fines.{later-fine, read-padding}
 
-pub static-as : {z c : Size} {r : MaybeNumber} → z ≡ c → r ≡ static_number c → r ≡ static_number z
-static-as e h = h ∙ ap static_number (sym e)
-
-is_static : (z : Size) {bits : ℕ} → MaybeNumber.Some bits ≡ static_number z → z ≡ Size.Static bits
+is_static : (z : Size) {bits : ℕ} → Some bits ≡ static_number z → z ≡ Size.Static bits
 is_static (Size.Static n) e = cc
 is_static Size.Dynamic e = absurd (let v : ◌≡◌ {A = ℕ} 0 1 = cc in omega arith)
 is_static Size.Unknown e = absurd (let v : ◌≡◌ {A = ℕ} 0 1 = cc in omega arith)
@@ -50,21 +47,21 @@ module _ (s rows values fields : List ℕ) (i n k : ℕ) where
       pub later-other : b ≡ false → z ≡ later_size m its
       later-other e = ez ∙ sym (by-test e)
 
-      pub later-array : b ≡ true → Fine (tables_of s rows values fields) i n → k < n → {p : MaybeNumber} → p ≡ capped_number its.padded_size
+      pub later-array : b ≡ true → Fine (tables_of s rows values fields) i n → k < n → {p : Option ℕ} → p ≡ capped_number its.padded_size
           → {r : Size} → r ≡ outer_size z p → r ≡ later_size m its
       later-array e fine h ep er = er ∙ rw (ez, read-padding s rows values fields i n fine k h ep) (sym (by-test e))
 
 -- ---- one field and those behind it
 
 module _ (m : Trailing) (t : ℕ) (a : Annotated) (later : List Annotated) where
-  abbrev by : Size → MaybeNumber
-  by z = elim z [ Size.Static bits ↦ trailing_from m (t + bits) later | Size.Dynamic ↦ MaybeNumber.None | Size.Unknown ↦ MaybeNumber.None ]
+  abbrev by : Size → Option ℕ
+  by z = elim z [ Size.Static bits ↦ trailing_from m (t + bits) later | Size.Dynamic ↦ None | Size.Unknown ↦ None ]
 
   static-head : {bits : ℕ} → later_size m a ≡ Size.Static bits → trailing_from m t (a ∷ later) ≡ trailing_from m (t + bits) later
   unfolding trailing_from
   static-head e = ap by e
 
-  other-head : (z : Size) → later_size m a ≡ z → MaybeNumber.None ≡ static_number z → MaybeNumber.None ≡ trailing_from m t (a ∷ later)
+  other-head : (z : Size) → later_size m a ≡ z → None ≡ static_number z → None ≡ trailing_from m t (a ∷ later)
   unfolding trailing_from
   other-head (Size.Static n) e h = absurd (let v : ◌≡◌ {A = ℕ} 0 1 = cc in omega arith)
   other-head Size.Dynamic e h = sym (ap by e)
@@ -85,25 +82,25 @@ module _ (s rows values fields : List ℕ) (i n : ℕ) (mode : Trailing) where
   abbrev here : ℕ → Annotated
   here j = annotated_at tables i n j
 
-  module _ (j t : ℕ) {e : MaybeNumber} (inv : trailing_from mode t (rest j) ≡ e) where
-    pub trailing-end : n ≤ j → MaybeNumber.Some t ≡ e
+  module _ (j t : ℕ) {e : Option ℕ} (inv : trailing_from mode t (rest j) ≡ e) where
+    pub trailing-end : n ≤ j → Some t ≡ e
     unfolding trailing_from
     trailing-end h = ap (trailing_from mode t) (sym (rest_end s rows values fields i n j h)) ∙ inv
 
-    module _ (h : j < n) {z : Size} (ez : z ≡ later_size mode (here j)) {m : MaybeNumber} (em : m ≡ static_number z) where
-      pub trailing-none : m ≡ MaybeNumber.None → MaybeNumber.None ≡ e
+    module _ (h : j < n) {z : Size} (ez : z ≡ later_size mode (here j)) {m : Option ℕ} (em : m ≡ static_number z) where
+      pub trailing-none : m ≡ None → None ≡ e
       trailing-none k =
           other-head mode t (here j) (rest (j + 1)) z (sym ez) (sym k ∙ em)
           ∙ ap (trailing_from mode t) (sym (rest-step s rows values fields i n j h)) ∙ inv
 
-      pub trailing-turn : {bits : ℕ} → m ≡ MaybeNumber.Some bits → trailing_from mode (t + bits) (rest (j + 1)) ≡ e
+      pub trailing-turn : {bits : ℕ} → m ≡ Some bits → trailing_from mode (t + bits) (rest (j + 1)) ≡ e
       trailing-turn k =
           sym (static-head mode t (here j) (rest (j + 1)) (sym ez ∙ is_static z (sym k ∙ em)))
           ∙ ap (trailing_from mode t) (sym (rest-step s rows values fields i n j h)) ∙ inv
 
   -- at most 2 ^ 31 - 1 bits for each field
   module _ (fine : Fine tables i n) (j t : ℕ) (room : t ≤ j * 2147483647) (h : j < n) {z : Size} (ez : z ≡ later_size mode (here j))
-      {m : MaybeNumber} (em : m ≡ static_number z) {bits : ℕ} (k : m ≡ MaybeNumber.Some bits) where
+      {m : Option ℕ} (em : m ≡ static_number z) {bits : ℕ} (k : m ≡ Some bits) where
     one : bits ≤ 2147483647
     one = within (later_size mode (here j)) (later-fine s rows values fields i n fine j h mode) (sym ez ∙ is_static z (sym k ∙ em))
 

@@ -1,5 +1,7 @@
 -- The verdict alone: counted by bits and fields of the open chunk, it is the verdict of what the plan tells. Read `judged` at the end first.
 -- Assumes nothing.
+use Rattle.std.specs.Prelude.{Result, Ok, Err}
+use Rattle.definitions.specs.Refusals.{Verdict, on_ok}
 use mathlib.Core.Bool.{Bool, true, false}
 use mathlib.Core.List.{List, [], ◌∷◌, ◌++◌}
 use mathlib.Core.Path.{◌≡◌, refl, sym, ap, ◌∙◌, subst}
@@ -14,7 +16,6 @@ use Rattle.definitions.specs.FieldParser.{next_nr}
 use Rattle.definitions.specs.declared.Options.{Options}
 use Rattle.definitions.specs.declared.Part.{Part}
 use Rattle.definitions.specs.declared.Refusal.{Refusal}
-use Rattle.definitions.specs.declared.Verdict.{Verdict}
 use Rattle.stream.specs.Stream.{State, fresh, calm, check_text, chunk_text, chunk_at}
 use Rattle.bit_fields.specs.declared.KindAt.{KindAt}
 use Rattle.bit_fields.specs.Kinds.{kind_in}
@@ -26,96 +27,33 @@ use Rattle.plans.specs.Plans.{entry_at, planned_in, plans_from, width_by, widths
 use Rattle.plans.proofs.Entries.{widths-step}
 use Rattle.chunks.specs.Steps.{code_verdict}
 use Rattle.chunks.proofs.Codes.{code-flushes}
-use Rattle.parser.specs.Driver.{said_in, misplaced, is_refused}
-use Rattle.parser.proofs.Others.{not-refused}
-use Rattle.verdicts.specs.declared.Counted.{Counted}
+use Rattle.parser.specs.Driver.{said_in, misplaced}
 use Rattle.verdicts.specs.declared.Tally.{Tally}
-use Rattle.verdicts.specs.Verdicts.{no_tally, emit_verdict, other_verdict, bit_by, bit_counted, counted, or_else, verdict_from, BitsFit}
+use Rattle.verdicts.specs.Verdicts.{no_tally, emit_verdict, other_verdict, bit_by, bit_counted, counted, verdict_from, BitsFit}
 
--- ---- one field, by the code's tests
+-- ---- one field: by how much the tally grows
 
-module _ {emit : EmitAt} where
-  pub emit-as : {x : EmitAt} → emit ≡ x → emit_verdict x ≡ emit_verdict emit
-  emit-as h = ap emit_verdict (sym h)
+ok-parts : {x u : Tally} → ◌≡◌ {A = Result Tally Refusal} (Ok x) (Ok u) → x ≡ u
+ok-parts h = cc
 
-module _ (t : Tally) (must : Bool) (emit : EmitAt) where
-  abbrev placed : Bool → Verdict
-  placed b = elim b [ true ↦ Verdict.Refuse Refusal.OctetBoundary | false ↦ emit_verdict emit ]
+module _ (t : Tally) where
+  -- by no more than one field, and the entry's bits
+  record Grown (u : Tally) (width : ℕ) : Type 0 where
+    pub few : u.len ≤ t.len + 1
+    pub bits : u.shift ≤ t.shift + width
 
-  abbrev flushed : Verdict → Verdict
-  flushed v = elim v [ Verdict.Pass ↦ placed (misplaced must t.shift) | Verdict.Refuse why ↦ Verdict.Refuse why ]
+  bit-grows : (width : ℕ) (b w : Bool) {u : Tally} → bit_by t width b w ≡ Ok u → Grown u width
+  bit-grows width true true h = let z : ◌≡◌ {A = ℕ} 0 1 = cc in absurd (omega arith)
+  bit-grows width true false {u} h = subst (λ (x : Tally). Grown x width) (ok-parts h) (record { few = omega arith; bits = omega arith })
+  bit-grows width false w {u} h = subst (λ (x : Tally). Grown x width) (ok-parts h) (record { few = omega arith; bits = omega arith })
 
-  module _ {v : Verdict} (ev : v ≡ code_verdict t.pending t.len) {b : Bool} (eb : b ≡ is_refused v) where
-    pub other-open : b ≡ true → v ≡ other_verdict t must emit
-    other-open f = by v (sym eb ∙ f) ∙ ap flushed ev
-      where
-        by : (w : Verdict) → is_refused w ≡ true → w ≡ flushed w
-        by Verdict.Pass e = let z : ◌≡◌ {A = ℕ} 0 1 = cc in absurd (omega arith)
-        by (Verdict.Refuse why) e = refl
+  other-grows : (v : Verdict) (x : Tally) {u : Tally} → x.len ≡ t.len → x.shift ≡ t.shift → (on_ok v λ _. Ok x) ≡ Ok u → Grown u 0
+  other-grows (Ok _) x {u} e f h = subst (λ (x : Tally). Grown x 0) (ok-parts h) (record { few = omega (arith, e); bits = omega (arith, f) })
+  other-grows (Err why) x e f h = let z : ◌≡◌ {A = ℕ} 0 1 = cc in absurd (omega arith)
 
-    module _ (f : b ≡ false) {m : Bool} (em : m ≡ misplaced must t.shift) where
-      on-place : placed m ≡ other_verdict t must emit
-      on-place = ap placed em ∙ ap flushed (sym (not-refused v (sym eb ∙ f)) ∙ ev)
-
-      pub other-misplaced : m ≡ true → Verdict.Refuse Refusal.OctetBoundary ≡ other_verdict t must emit
-      other-misplaced h = ap placed (sym h) ∙ on-place
-
-      pub other-emits : m ≡ false → {r : Verdict} → r ≡ emit_verdict emit → r ≡ other_verdict t must emit
-      other-emits h e = e ∙ ap placed (sym h) ∙ on-place
-
-module _ (t : Tally) (width : ℕ) where
-  by_tests : {b w : Bool} → eqb ((t.shift + width) % 8) 0 ≡ b → ltb 64 (t.shift + width) ≡ w → bit_by t width b w ≡ bit_counted t width
-  by_tests {b} {w} e f =
-      ap (λ (x : Bool). bit_by t width x w) (sym e) ∙ ap (bit_by t width (eqb ((t.shift + width) % 8) 0)) (sym f)
-
-  pub bit-wide : (t.shift + width) % 8 ≡ 0 → 64 < t.shift + width
-      → record { verdict = Verdict.Refuse Refusal.ScalarTooWide; tally = t } ≡ bit_counted t width
-  bit-wide e h = by_tests (eq-eqb _ _ e) (lt-ltb _ _ h)
-
-  pub bit-closes : (t.shift + width) % 8 ≡ 0 → t.shift + width ≤ 64
-      → record { verdict = Verdict.Pass; tally = record { shift = 0; len = 0; pending = true } } ≡ bit_counted t width
-  bit-closes e h = by_tests (eq-eqb _ _ e) (le-ltb _ _ h)
-
-  pub bit-opens : ((t.shift + width) % 8 ≡ 0 → ⊥)
-      → record { verdict = Verdict.Pass; tally = record { shift = t.shift + width; len = t.len + 1; pending = t.pending } } ≡ bit_counted t width
-  bit-opens e = by_tests (ne_eqb _ _ e) refl
-
-module _ (t : Tally) (here : PlanAt) where
-  pub counts-as : {x : PlanAt} → here ≡ x → {r : Counted} → r ≡ counted t x → r ≡ counted t here
-  counts-as h e = e ∙ ap (counted t) (sym h)
-
-  pub counts-other : {must : Bool} {emit : EmitAt} → here ≡ PlanAt.Other must emit → {v : Verdict} → v ≡ other_verdict t must emit
-      → record { verdict = v; tally = record { shift = t.shift; len = t.len; pending = false } } ≡ counted t here
-  counts-other h e =
-      counts-as h (ap (λ (v : Verdict). record { verdict = v; tally = record { shift = t.shift; len = t.len; pending = false } }) e)
-
-  pub bits_fit : {width later : ℕ} {kind : KindAt} → here ≡ PlanAt.Bit width later kind → BitsFit t here → t.shift + width < 2 ^ 64
-  bits_fit h = subst (BitsFit t) h
-
-  -- the tally grows by no more than the entry
-  pub counts-few : (counted t here).tally.len ≤ t.len + 1
-  counts-few = by here
-    where
-      bit-few : (width : ℕ) (b w : Bool) → (bit_by t width b w).tally.len ≤ t.len + 1
-      bit-few width true true = omega arith
-      bit-few width true false = omega arith
-      bit-few width false w = omega arith
-
-      by : (x : PlanAt) → (counted t x).tally.len ≤ t.len + 1
-      by (PlanAt.Bit width later kind) = bit-few width (eqb ((t.shift + width) % 8) 0) (ltb 64 (t.shift + width))
-      by (PlanAt.Other must emit) = omega arith
-
-  pub counts_bits : (counted t here).tally.shift ≤ t.shift + width_by here
-  counts_bits = by here
-    where
-      bit-bits : (width : ℕ) (b w : Bool) → (bit_by t width b w).tally.shift ≤ t.shift + width
-      bit-bits width true true = omega arith
-      bit-bits width true false = omega arith
-      bit-bits width false w = omega arith
-
-      by : (x : PlanAt) → (counted t x).tally.shift ≤ t.shift + width_by x
-      by (PlanAt.Bit width later kind) = bit-bits width (eqb ((t.shift + width) % 8) 0) (ltb 64 (t.shift + width))
-      by (PlanAt.Other must emit) = omega arith
+  grows : (here : PlanAt) {u : Tally} → counted t here ≡ Ok u → Grown u (width_by here)
+  grows (PlanAt.Bit width later kind) h = bit-grows width (eqb ((t.shift + width) % 8) 0) (ltb 64 (t.shift + width)) h
+  grows (PlanAt.Other must emit) h = other-grows (other_verdict t must emit) _ refl refl h
 
 -- ---- it is the verdict of what is told
 
@@ -129,34 +67,42 @@ module _ (next : State → Told) (f : Tally → Verdict) (e : (u : State) → (n
   told-by x = (joined x.verdict x.lines (next x.after)).verdict
 
   step-said : (st : State) (s : Text) (o : Options) (bits : Part → ℕ) (emit : EmitAt)
-      → told-by (said_advance st (said_in o s bits emit)) ≡ or_else (emit_verdict emit) (f (tally_of st))
+      → told-by (said_advance st (said_in o s bits emit)) ≡ on_ok (emit_verdict emit) λ _. f (tally_of st)
   step-said st s o bits (EmitAt.Appends block) = e st
   step-said st s o bits EmitAt.Silent = e st
   step-said st s o bits (EmitAt.Refuses why) = refl
 
   step_other : (st : State) (s : Text) (o : Options) (bits : Part → ℕ) (must : Bool) (emit : EmitAt)
-      → told-by (other_advance st must (said_in o s bits emit)) ≡ or_else (other_verdict (tally_of st) must emit) (f (tally_of (calm st)))
+      → told-by (other_advance st must (said_in o s bits emit)) ≡ on_ok (counted (tally_of st) (PlanAt.Other must emit)) f
   unfolding other_advance on_shift
   step_other st s o bits must emit =
       by (flush_verdict st.pending st.chunk)
-      ∙ ap (λ (v : Verdict). or_else (flushed (tally_of st) must emit v) (f (tally_of (calm st))))
-      (sym (code-flushes st.pending st.chunk (length st.chunk) refl))
+      ∙ ap (λ (v : Verdict). on_ok (on_ok (flushed v) λ _. Ok (tally_of (calm st))) f) (sym (code-flushes st.pending st.chunk (length st.chunk) refl))
     where
+      placed : Bool → Verdict
+      placed b = elim b [ true ↦ Err Refusal.OctetBoundary | false ↦ emit_verdict emit ]
+
+      flushed : Verdict → Verdict
+      flushed v = on_ok v λ _. placed (misplaced must st.shift)
+
+      flat : (v : Verdict) → (on_ok v λ _. f (tally_of (calm st))) ≡ on_ok (on_ok v λ _. Ok (tally_of (calm st))) f
+      flat (Ok _) = refl
+      flat (Err why) = refl
+
       place : (b : Bool) → told-by (said_advance (calm st) (elim b as (λ _. Said) [ true ↦ stops Refusal.OctetBoundary | false ↦ said_in o s bits emit ]))
-          ≡ or_else (placed (tally_of st) must emit b) (f (tally_of (calm st)))
+          ≡ on_ok (on_ok (placed b) λ _. Ok (tally_of (calm st))) f
       place true = refl
-      place false = step-said (calm st) s o bits emit
+      place false = step-said (calm st) s o bits emit ∙ flat (emit_verdict emit)
 
       by : (v : Verdict) → told-by (elim v as (λ _. Advance) [
-        | Verdict.Pass ↦ said_advance (calm st) (on_shift st.shift must (said_in o s bits emit))
-        | Verdict.Refuse why ↦ record { verdict = Verdict.Refuse why; lines = []; after = st }
-      ]) ≡ or_else (flushed (tally_of st) must emit v) (f (tally_of (calm st)))
-      by Verdict.Pass = place (misplaced must st.shift)
-      by (Verdict.Refuse why) = refl
+        | Ok _ ↦ said_advance (calm st) (on_shift st.shift must (said_in o s bits emit))
+        | Err why ↦ record { verdict = Err why; lines = []; after = st }
+      ]) ≡ on_ok (on_ok (flushed v) λ _. Ok (tally_of (calm st))) f
+      by (Ok _) = place (misplaced must st.shift)
+      by (Err why) = refl
 
   step-bit : (st : State) (o : Options) (kind : Kind) (width later : ℕ)
-      → told-by (bit_advance o st kind width later)
-      ≡ or_else (bit_counted (tally_of st) width).verdict (f (bit_counted (tally_of st) width).tally)
+      → told-by (bit_advance o st kind width later) ≡ on_ok (bit_counted (tally_of st) width) f
   unfolding bit_advance
   step-bit st o kind width later = by (eqb ((st.shift + width) % 8) 0) (ltb 64 (st.shift + width))
     where
@@ -165,19 +111,19 @@ module _ (next : State → Told) (f : Tally → Verdict) (e : (u : State) → (n
 
       by : (b w : Bool) → told-by (elim b as (λ _. Advance) [
         | true ↦ elim w as (λ _. Advance) [
-          | true ↦ record { verdict = Verdict.Refuse Refusal.ScalarTooWide; lines = []; after = st }
+          | true ↦ record { verdict = Err Refusal.ScalarTooWide; lines = []; after = st }
           | false ↦ record {
-            verdict = Verdict.Pass;
+            verdict = Ok tt;
             lines = check_text st.pending ((st.shift + width + later) / 8) ++ chunk_text o (chunk_at st bs);
             after = record { shift = 0; chunk = []; chunk_nr = next_nr st.chunk_nr bs; raw_nr = raws_behind st.raw_nr bs; pending = true };
           }
         ]
         | false ↦ record {
-          verdict = Verdict.Pass;
+          verdict = Ok tt;
           lines = [];
           after = record { shift = st.shift + width; chunk = bs; chunk_nr = st.chunk_nr; raw_nr = st.raw_nr; pending = st.pending };
         }
-      ]) ≡ or_else (bit_by (tally_of st) width b w).verdict (f (bit_by (tally_of st) width b w).tally)
+      ]) ≡ on_ok (bit_by (tally_of st) width b w) f
       by true true = refl
       by true false = e _
       by false w =
@@ -185,7 +131,7 @@ module _ (next : State → Told) (f : Tally → Verdict) (e : (u : State) → (n
           (length-append st.chunk (record { shift = st.shift; width = width; kind = kind } ∷ []))
 
   step : (st : State) (s : Text) (o : Options) (bits : Part → ℕ) (here : PlanAt) (later : ℕ)
-      → told-by (advance o st (planned_in o s bits here) later) ≡ or_else (counted (tally_of st) here).verdict (f (counted (tally_of st) here).tally)
+      → told-by (advance o st (planned_in o s bits here) later) ≡ on_ok (counted (tally_of st) here) f
   step st s o bits (PlanAt.Bit width behind kind) later = step-bit st o (kind_in o.arrays s (text "payload") kind) width later
   step st s o bits (PlanAt.Other must emit) later = step_other st s o bits must emit
 
@@ -241,28 +187,23 @@ module _ (plan : List PlanAt) (n : ℕ) where
       one_less : suc (n - (k + 1)) ≡ n - k
       one_less = omega arith
 
-      turns : or_else (counted t (entry_at plan k)).verdict (verdict_from plan (counted t (entry_at plan k)).tally (k + 1) (n - (k + 1)))
-          ≡ verdict_from plan no_tally 0 n
-      unfolding verdict_from
-      turns = ap (verdict_from plan t k) one_less ∙ c.goes
+      module _ {x : Result Tally Refusal} (ex : x ≡ counted t (entry_at plan k)) where
+        turns : (on_ok x λ u. verdict_from plan u (k + 1) (n - (k + 1))) ≡ verdict_from plan no_tally 0 n
+        unfolding verdict_from
+        turns =
+            ap (λ (y : Result Tally Refusal). on_ok y λ u. verdict_from plan u (k + 1) (n - (k + 1))) ex
+            ∙ ap (verdict_from plan t k) one_less ∙ c.goes
 
-      module _ {x : Counted} (ex : x ≡ counted t (entry_at plan k)) {b : Bool} (eb : b ≡ is_refused x.verdict) where
-        as-x : or_else x.verdict (verdict_from plan x.tally (k + 1) (n - (k + 1))) ≡ verdict_from plan no_tally 0 n
-        as-x = ap (λ (y : Counted). or_else y.verdict (verdict_from plan y.tally (k + 1) (n - (k + 1)))) ex ∙ turns
+        pub entry-refused : {why : Refusal} → x ≡ Err why → ◌≡◌ {A = Verdict} (Err why) (verdict_from plan no_tally 0 n)
+        entry-refused e =
+            ap (λ (y : Result Tally Refusal). on_ok y λ u. verdict_from plan u (k + 1) (n - (k + 1))) (sym e) ∙ turns
 
-        pub entry-refused : b ≡ true → x.verdict ≡ verdict_from plan no_tally 0 n
-        entry-refused f = by x.verdict (sym eb ∙ f) ∙ as-x
-          where
-            by : (v : Verdict) → is_refused v ≡ true → v ≡ or_else v (verdict_from plan x.tally (k + 1) (n - (k + 1)))
-            by Verdict.Pass e = let z : ◌≡◌ {A = ℕ} 0 1 = cc in absurd (omega arith)
-            by (Verdict.Refuse why) e = refl
-
-        pub entry-passed : b ≡ false → Counting plan n (k + 1) x.tally
-        entry-passed f = record {
-          inside = omega arith;
-          few = omega (arith, c.few, counts-few t (entry_at plan k), ap (λ (y : Counted). y.tally.len) ex);
-          fits = omega (arith, c.fits, widths, counts_bits t (entry_at plan k), ap (λ (y : Counted). y.tally.shift) ex);
-          goes =
-              ap (λ (v : Verdict). or_else v (verdict_from plan x.tally (k + 1) (n - (k + 1)))) (sym (not-refused x.verdict (sym eb ∙ f)))
-              ∙ as-x;
-        }
+        pub entry-passed : {u : Tally} → x ≡ Ok u → Counting plan n (k + 1) u
+        entry-passed {u} e =
+            let g : Grown t u (width_by (entry_at plan k)) = grows t (entry_at plan k) (sym ex ∙ e) in
+            record {
+              inside = omega arith;
+              few = omega (arith, c.few, g.few);
+              fits = omega (arith, c.fits, widths, g.bits);
+              goes = ap (λ (y : Result Tally Refusal). on_ok y λ u. verdict_from plan u (k + 1) (n - (k + 1))) (sym e) ∙ turns;
+            }

@@ -5,4 +5,4 @@ use borrow.Author.Rules.{rules}
 use Rattle.array_fields.proofs.padded_bytes.Goals as goal
 
 pub returns : goal.returns
-returns c = search (padding-bytes, rules)
+returns c = search (padding-bytes, c.args.t.now.fine, rules)

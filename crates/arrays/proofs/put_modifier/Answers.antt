@@ -1,12 +1,16 @@
-use Rattle.arrays.proofs.Modifiers.{modifier-none, modifier-plus, modifier-minus}
+use Rattle.text.proofs.Wrotes.{nothing}
+use Rattle.arrays.specs.Shapes.{modifier_text}
 use borrow.Author.Rules.{rules}
 use Rattle.arrays.proofs.put_modifier.Goals as goal
 
 pub returns-in-None : goal.returns-in-None
-returns-in-None c = modifier-none _ _ _ _ _ (search rules) (search rules)
+unfolding modifier_text
+returns-in-None c = rw c.in-None.is (search (nothing, rules))
 
 pub returns-in-Plus : goal.returns-in-Plus
-returns-in-Plus c = search (modifier-plus, rules)
+unfolding modifier_text
+returns-in-Plus c = rw c.in-Plus.is (search rules)
 
 pub returns-in-Minus : goal.returns-in-Minus
-returns-in-Minus c = search (modifier-minus, rules)
+unfolding modifier_text
+returns-in-Minus c = rw c.in-Minus.is (search rules)

@@ -1,5 +1,6 @@
 use Rattle.bit_fields.proofs.Pieces.{tag-line}
+use borrow.Author.Rules.{rules}
 use Rattle.bit_fields.proofs.put_fixed_enum.Goals as goal
 
 pub returns : goal.returns
-returns c = tag-line _ _ _ c.put_name-p.ensures c.put_source-q.ensures c.put_name-r.ensures c.put_name.ensures
+returns c = search (tag-line, rules)

@@ -6,4 +6,4 @@ pub returns-in-Read : goal.returns-in-Read
 returns-in-Read c = search (source-read, rules)
 
 pub returns-in-Bits : goal.returns-in-Bits
-returns-in-Bits c = source-bits _ _ _ _ _ _ (search rules) c.put-p.ensures c.put_number-q.ensures c.put_number-r.ensures c.put_hexadecimal.ensures
+returns-in-Bits c = search (source-bits, rules)

@@ -1,7 +1,6 @@
 -- `bits::add_capped` meets its contract.
 -- Assumes nothing.
-use Rattle.bits.proofs.Caps.{capped-added}
-use Rattle.bits.proofs.Caps.{capped-fit}
+use Rattle.bits.proofs.Caps.{capped-fit, capped-added}
 use borrow.Author.Rules.{rules}
 use Rattle.bits.proofs.add_capped.Goals as goal
 

@@ -4,11 +4,11 @@ use Rattle.bits.proofs.Coding.{decode-static, decode-dynamic, decode-unknown}
 use borrow.Author.Rules.{rules}
 use Rattle.bits.proofs.decode.Goals as goal
 
-pub returns-then-n-lt2147483648 : goal.returns-then-n-lt2147483648
-returns-then-n-lt2147483648 c = search (decode-static, decode-dynamic, decode-unknown, rules)
+pub returns-in-0-to-2147483647 : goal.returns-in-0-to-2147483647
+returns-in-0-to-2147483647 c = search (decode-static, rules)
 
-pub returns-then-n-eq2147483648 : goal.returns-then-n-eq2147483648
-returns-then-n-eq2147483648 c = search (decode-static, decode-dynamic, decode-unknown, rules)
+pub returns-in-2147483648 : goal.returns-in-2147483648
+returns-in-2147483648 c = search (decode-dynamic, rules)
 
-pub returns : goal.returns
-returns c = search (decode-static, decode-dynamic, decode-unknown, rules)
+pub returns-in_default : goal.returns-in_default
+returns-in_default c = search (decode-unknown, rules)

@@ -1,5 +1,3 @@
--- `chunk_lines::put_chunk` meets its contract, by the laws of proofs/Whole.
--- Assumes nothing.
 use Rattle.chunk_lines.proofs.Fields.{closed-narrow}
 use Rattle.chunk_lines.proofs.Whole.{chunk-skip, raws-skip, chunk-many}
 use borrow.Author.Rules.{rules}

@@ -1,5 +1,3 @@
--- `chunk_lines::put_skip` meets its contract.
--- Assumes nothing.
 use Rattle.chunk_lines.proofs.Whole.{skip-line}
 use borrow.Author.Rules.{rules}
 use Rattle.chunk_lines.proofs.put_skip.Goals as goal

@@ -8,5 +8,5 @@ loop-end-preserved g c =
     let (before, kept, came) = c.loop-end.invariant in (
       search rules,
       take-put_mid_below _ _ _ _ _ before (search rules) ∙ kept,
-      came_behind _ _ _ _ _ _ before (search rules) (search rules) _ _ _ came c.in-Bytes.ensures.bytes,
+      came_behind _ _ _ _ _ _ before (search rules) (search rules) _ _ _ came c.in-Ok.ensures.bytes.0,
     )

@@ -1,9 +1,11 @@
-use Rattle.elements.proofs.Laws.{in-slot, in-push}
+use Rattle.elements.specs.Elements.{place_start}
 use Rattle.std.proofs.Common.{rules}
 use Rattle.elements.proofs.put_place.Goals as goal
 
 pub returns-in-Slot : goal.returns-in-Slot
-returns-in-Slot c = search (in-slot, rules)
+unfolding place_start
+returns-in-Slot c = rw c.in-Slot.is (search rules)
 
 pub returns-in-Push : goal.returns-in-Push
-returns-in-Push c = search (in-push, rules)
+unfolding place_start
+returns-in-Push c = rw c.in-Push.is (search rules)

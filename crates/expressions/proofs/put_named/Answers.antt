@@ -1,5 +1,6 @@
-use Rattle.text.proofs.Puts.{chain}
+use Rattle.text.proofs.Wrotes.{then}
+use borrow.Author.Rules.{rules}
 use Rattle.expressions.proofs.put_named.Goals as goal
 
 pub returns : goal.returns
-returns c = search chain
+returns c = search (then, rules)

@@ -1,36 +1,74 @@
-use Rattle.field_lines.proofs.Arms.{array-fits, sized-payload-at, payload-up-to-at, payload-to-end-at, array_at, scalar-at, open_at, closed_at, optional-nested-at, nested-at, nested-up-to-at}
-use borrow.Author.Rules.{rules}
+-- `field_lines::put_block` meets its contract: each arm writes the block that its case stands for.
+-- Assumes nothing.
+use mathlib.Core.Path.{sym}
+use Rattle.emits.specs.BlockOf.{block_of}
 use Rattle.field_lines.proofs.put_block.Goals as goal
 
-pub put_array-requires : goal.put_array-requires
-put_array-requires c = search (array-fits, rules)
-
 pub returns-in-SizedPayload : goal.returns-in-SizedPayload
-returns-in-SizedPayload c = λ bits. search (sized-payload-at, rules)
+unfolding block_of
+returns-in-SizedPayload c = λ bits. rw (c.in-SizedPayload.is, block_of) c.put_sized_payload.ensures
 
 pub returns-in-PayloadUpTo : goal.returns-in-PayloadUpTo
-returns-in-PayloadUpTo c = λ bits. search (payload-up-to-at, rules)
+unfolding block_of
+returns-in-PayloadUpTo c = λ bits. rw (c.in-PayloadUpTo.is, block_of) c.put_payload_up_to.ensures
 
 pub returns-in-PayloadToEnd : goal.returns-in-PayloadToEnd
-returns-in-PayloadToEnd c = λ bits. search (payload-to-end-at, rules)
+unfolding block_of
+returns-in-PayloadToEnd c = λ bits. rw (c.in-PayloadToEnd.is, block_of) c.put_payload_to_end.ensures
 
 pub returns-in-Array : goal.returns-in-Array
-returns-in-Array c = λ bits. search (array_at, rules)
+unfolding block_of
+returns-in-Array c = λ bits. rw (c.in-Array.is, block_of) (c.put_array.ensures (bits c.in-Array.id))
 
 pub returns-in-OptionalScalar : goal.returns-in-OptionalScalar
-returns-in-OptionalScalar c = λ bits. search (scalar-at, rules)
+unfolding block_of
+returns-in-OptionalScalar c = λ bits. rw (c.in-OptionalScalar.is, block_of, sym c.part-c.ensures, sym c.part-x.ensures) c.put_optional_scalar.ensures
 
 pub returns-in-OptionalOpen : goal.returns-in-OptionalOpen
-returns-in-OptionalOpen c = λ bits. search (open_at, rules)
+unfolding block_of
+returns-in-OptionalOpen c =
+    λ bits.
+    rw (
+      c.in-OptionalOpen.is,
+      block_of,
+      sym c.part-c-in-OptionalOpen.ensures,
+      sym c.part-x-in-OptionalOpen.ensures,
+      sym c.part-ty.ensures,
+    )
+    c.put_optional_open.ensures
 
 pub returns-in-OptionalClosed : goal.returns-in-OptionalClosed
-returns-in-OptionalClosed c = λ bits. search (closed_at, rules)
+unfolding block_of
+returns-in-OptionalClosed c =
+    λ bits.
+    rw (
+      c.in-OptionalClosed.is,
+      block_of,
+      sym c.part-c-in-OptionalClosed.ensures,
+      sym c.part-x-in-OptionalClosed.ensures,
+      sym c.part-ty-in-OptionalClosed.ensures,
+    )
+    c.put_optional_closed.ensures
 
 pub returns-in-OptionalNested : goal.returns-in-OptionalNested
-returns-in-OptionalNested c = λ bits. search (optional-nested-at, rules)
+unfolding block_of
+returns-in-OptionalNested c =
+    λ bits.
+    rw (
+      c.in-OptionalNested.is,
+      block_of,
+      sym c.part-c-in-OptionalNested.ensures,
+      sym c.part-x-in-OptionalNested.ensures,
+      sym c.part-ty-in-OptionalNested.ensures,
+    )
+    c.put_optional_nested.ensures
 
 pub returns-in-Nested : goal.returns-in-Nested
-returns-in-Nested c = λ bits. search (nested-at, rules)
+unfolding block_of
+returns-in-Nested c =
+    λ bits. rw (c.in-Nested.is, block_of, sym c.part-x-in-Nested.ensures, sym c.part-ty-in-Nested.ensures) c.put_nested.ensures
 
 pub returns-in-NestedUpTo : goal.returns-in-NestedUpTo
-returns-in-NestedUpTo c = λ bits. search (nested-up-to-at, rules)
+unfolding block_of
+returns-in-NestedUpTo c =
+    λ bits. rw (c.in-NestedUpTo.is, block_of, sym c.part-x-in-NestedUpTo.ensures, sym c.part-ty-in-NestedUpTo.ensures) c.put_nested_up_to.ensures

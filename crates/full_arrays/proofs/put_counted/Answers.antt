@@ -1,6 +1,6 @@
-use Rattle.array_lines.proofs.Laws.{three}
+use Rattle.expressions.proofs.Follow.{first, only}
 use borrow.Author.Rules.{rules}
 use Rattle.full_arrays.proofs.put_counted.Goals as goal
 
 pub returns : goal.returns
-returns c = search (three, rules)
+returns c = search (first, only, rules)

@@ -1,15 +1,20 @@
-use Rattle.full_arrays.proofs.Full.{full-unknown-count, full-unknown-counted, full-unknown-sized, full-unknown-rest}
+use Rattle.expressions.proofs.Follow.{first, only}
+use Rattle.full_arrays.specs.Shapes.{full_text}
 use borrow.Author.Rules.{rules}
 use Rattle.full_arrays.proofs.put_unknown_full.Goals as goal
 
 pub returns-in-StaticCount : goal.returns-in-StaticCount
-returns-in-StaticCount c = search (full-unknown-count, rules)
+unfolding full_text
+returns-in-StaticCount c = rw c.in-StaticCount.is (search (first, only, rules))
 
 pub returns-in-DynamicCount : goal.returns-in-DynamicCount
-returns-in-DynamicCount c = search (full-unknown-counted, rules)
+unfolding full_text
+returns-in-DynamicCount c = rw c.in-DynamicCount.is (search (first, only, rules))
 
 pub returns-in-DynamicSize : goal.returns-in-DynamicSize
-returns-in-DynamicSize c = search (full-unknown-sized, rules)
+unfolding full_text
+returns-in-DynamicSize c = rw c.in-DynamicSize.is (search (first, only, rules))
 
 pub returns-in-Unknown : goal.returns-in-Unknown
-returns-in-Unknown c = search (full-unknown-rest, rules)
+unfolding full_text
+returns-in-Unknown c = rw c.in-Unknown.is (search (first, only, rules))

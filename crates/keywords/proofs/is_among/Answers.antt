@@ -7,8 +7,8 @@ use Rattle.keywords.proofs.is_among.Goals as goal
 pub loop-left-init : goal.loop-left-init
 loop-left-init c = search (left-start, rules)
 
-pub returns-in-At : goal.returns-in-At
-returns-in-At c = search (left-found, rules)
+pub returns-in-Some : goal.returns-in-Some
+returns-in-Some c = search (left-found, rules)
 
 pub loop-left-preserved : goal.loop-left-preserved
 loop-left-preserved c = search (left-turn, rules)

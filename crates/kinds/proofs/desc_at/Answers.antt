@@ -4,8 +4,8 @@ use Rattle.kinds.proofs.Choice.{no_field, by_word}
 use borrow.Author.Rules.{rules}
 use Rattle.kinds.proofs.desc_at.Goals as goal
 
-pub returns-in_default : goal.returns-in_default
-returns-in_default c = search (no_field, by_word, rules)
+pub returns-in_err-key_at : goal.returns-in_err-key_at
+returns-in_err-key_at c = search (no_field, by_word, rules)
 
 pub returns : goal.returns
-returns c = search (no_field, by_word, rules)
+returns c = by_word _ _ c.key_at.ensures c.in_ok-key_at.was c.number_kind.ensures

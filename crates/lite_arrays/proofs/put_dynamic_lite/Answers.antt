@@ -1,15 +1,20 @@
-use Rattle.lite_arrays.proofs.Lite.{lite-dynamic-count, lite-dynamic-counted, lite-dynamic-sized, lite-dynamic-rest}
+use Rattle.expressions.proofs.Follow.{first}
+use Rattle.lite_arrays.specs.Shapes.{lite_text}
 use borrow.Author.Rules.{rules}
 use Rattle.lite_arrays.proofs.put_dynamic_lite.Goals as goal
 
 pub returns-in-StaticCount : goal.returns-in-StaticCount
-returns-in-StaticCount c = search (lite-dynamic-count, rules)
+unfolding lite_text
+returns-in-StaticCount c = rw c.in-StaticCount.is (search (first, rules))
 
 pub returns-in-DynamicCount : goal.returns-in-DynamicCount
-returns-in-DynamicCount c = search (lite-dynamic-counted, rules)
+unfolding lite_text
+returns-in-DynamicCount c = rw c.in-DynamicCount.is (search (first, rules))
 
 pub returns-in-DynamicSize : goal.returns-in-DynamicSize
-returns-in-DynamicSize c = search (lite-dynamic-sized, rules)
+unfolding lite_text
+returns-in-DynamicSize c = rw c.in-DynamicSize.is (search (first, rules))
 
 pub returns-in-Unknown : goal.returns-in-Unknown
-returns-in-Unknown c = search (lite-dynamic-rest, rules)
+unfolding lite_text
+returns-in-Unknown c = rw c.in-Unknown.is (search (first, rules))

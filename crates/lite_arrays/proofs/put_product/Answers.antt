@@ -1,6 +1,6 @@
-use Rattle.lite_arrays.proofs.Statements.{product-lines}
+use Rattle.expressions.proofs.Follow.{first}
 use borrow.Author.Rules.{rules}
 use Rattle.lite_arrays.proofs.put_product.Goals as goal
 
 pub returns : goal.returns
-returns c = search (product-lines, rules)
+returns c = search (first, rules)

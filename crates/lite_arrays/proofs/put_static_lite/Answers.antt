@@ -1,19 +1,20 @@
-use Rattle.array_lines.proofs.Products.{fits_count}
-use Rattle.lite_arrays.proofs.Lite.{lite-static-count, lite-static-counted, lite-static-sized, lite-static-rest}
+use Rattle.expressions.proofs.Follow.{first}
+use Rattle.lite_arrays.specs.Shapes.{lite_text}
 use borrow.Author.Rules.{rules}
 use Rattle.lite_arrays.proofs.put_static_lite.Goals as goal
 
-pub overflow_mul-total_size : goal.overflow_mul-total_size
-overflow_mul-total_size c = search (fits_count, rules)
-
 pub returns-in-StaticCount : goal.returns-in-StaticCount
-returns-in-StaticCount c = search (lite-static-count, rules)
+unfolding lite_text
+returns-in-StaticCount c = rw c.in-StaticCount.is (search (first, rules))
 
 pub returns-in-DynamicCount : goal.returns-in-DynamicCount
-returns-in-DynamicCount c = search (lite-static-counted, rules)
+unfolding lite_text
+returns-in-DynamicCount c = rw c.in-DynamicCount.is (search (first, rules))
 
 pub returns-in-DynamicSize : goal.returns-in-DynamicSize
-returns-in-DynamicSize c = search (lite-static-sized, rules)
+unfolding lite_text
+returns-in-DynamicSize c = rw c.in-DynamicSize.is (search (first, rules))
 
 pub returns-in-Unknown : goal.returns-in-Unknown
-returns-in-Unknown c = search (lite-static-rest, rules)
+unfolding lite_text
+returns-in-Unknown c = rw c.in-Unknown.is (search (first, rules))

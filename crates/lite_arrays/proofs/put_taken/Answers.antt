@@ -1,6 +1,6 @@
-use Rattle.lite_arrays.proofs.Statements.{taken-lines}
+use Rattle.expressions.proofs.Follow.{first}
 use borrow.Author.Rules.{rules}
 use Rattle.lite_arrays.proofs.put_taken.Goals as goal
 
 pub returns : goal.returns
-returns c = search (taken-lines, rules)
+returns c = search (first, rules)

@@ -1,27 +1,24 @@
 -- `lowering::write_plan` meets its contract, by the laws of Passes.
 -- Assumes nothing.
-use Rattle.lowering.proofs.Passes.{pass-refused, pass-no-room, pass-written}
+use mathlib.Core.Path.{refl}
+use borrow.Author.Rules.{rules}
+use Rattle.lowering.proofs.Passes.{of-error, pass-refused, pass-no-room, pass-written, pass-again}
 use Rattle.lowering.proofs.write_plan.Goals as goal
+
+pub returns-in_err-lower_target : goal.returns-in_err-lower_target
+returns-in_err-lower_target c = λ bits.
+    pass-refused _ refl (c.lower_target.ensures bits) c.in_err-lower_target.was (of-error {x = c.from_residual.result} (search rules))
 
 pub returns-then-out-first : goal.returns-then-out-first
 returns-then-out-first c = λ bits.
-    pass-no-room _
-    (c.lower_target-first.ensures bits)
-    c.in-Pass.is
-    c.if-out-first.true
-    c.turned_back-then-out-first.ensures
+    pass-no-room _ refl (c.lower_target.ensures bits) c.in_ok-lower_target.was c.if-out-first.true refl
 
-pub returns-in-Refuse : goal.returns-in-Refuse
-returns-in-Refuse c = λ bits.
-    pass-refused _
-    (c.lower_target-first.ensures bits)
-    c.in-Refuse.is
-    c.turned_back.ensures
+pub returns-in_err-lower_target-2 : goal.returns-in_err-lower_target-2
+returns-in_err-lower_target-2 c = λ bits.
+    pass-again _ refl (c.lower_target.ensures bits) c.in_ok-lower_target.was c.if-out-first.false refl refl
+    (c.lower_target-2.ensures bits) c.in_err-lower_target-2.was
 
-pub returns-else-out-first : goal.returns-else-out-first
-returns-else-out-first c = λ bits.
-    pass-written _
-    (c.lower_target-first.ensures bits)
-    c.in-Pass.is
-    c.if-out-first.false
-    (c.lower_target-second.ensures bits)
+pub returns : goal.returns
+returns c = λ bits.
+    pass-written _ refl (c.lower_target.ensures bits) c.in_ok-lower_target.was c.if-out-first.false refl refl
+    (c.lower_target-2.ensures bits) (let same = (c.lower_target-2.ensures bits).wrote.same in search rules)

@@ -1,27 +1,15 @@
 -- `lowering::write_sections` meets its contract, by the laws of Passes.
 -- Assumes nothing.
-use Rattle.lowering.proofs.Passes.{pass-refused, pass-no-room, pass-written}
+use mathlib.Core.Path.{refl}
+use borrow.Author.Rules.{rules}
+use Rattle.lowering.proofs.Passes.{of-error, sections-refused, sections-no-room, sections-written}
 use Rattle.lowering.proofs.write_sections.Goals as goal
 
+pub returns-in_err-whole : goal.returns-in_err-whole
+returns-in_err-whole c = sections-refused _ c.put_sections.ensures c.in_err-whole.was (of-error {x = c.from_residual.result} (search rules))
+
 pub returns-then-out-whole : goal.returns-then-out-whole
-returns-then-out-whole c =
-    pass-no-room _
-    c.put_sections-whole.ensures
-    c.in-Pass.is
-    c.if-out-whole.true
-    c.turned_back-then-out-whole.ensures
+returns-then-out-whole c = sections-no-room _ c.put_sections.ensures c.in_ok-whole.was c.if-out-whole.true refl
 
-pub returns-in-Refuse : goal.returns-in-Refuse
-returns-in-Refuse c =
-    pass-refused _
-    c.put_sections-whole.ensures
-    c.in-Refuse.is
-    c.turned_back.ensures
-
-pub returns-else-out-whole : goal.returns-else-out-whole
-returns-else-out-whole c =
-    pass-written _
-    c.put_sections-whole.ensures
-    c.in-Pass.is
-    c.if-out-whole.false
-    c.put_sections-written.ensures
+pub returns : goal.returns
+returns c = sections-written _ c.put_sections.ensures c.in_ok-whole.was c.if-out-whole.false c.put_sections-2.ensures

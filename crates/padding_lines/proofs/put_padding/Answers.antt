@@ -1,10 +1,6 @@
 use Rattle.padding_lines.proofs.Paddings.{padding-lines}
+use borrow.Author.Rules.{rules}
 use Rattle.padding_lines.proofs.put_padding.Goals as goal
 
 pub returns : goal.returns
-returns c =
-    padding-lines _ _
-    c.put_name-p.ensures
-    c.put_number-q.ensures
-    c.put_missing-s.ensures
-    c.put_missing.ensures
+returns c = search (padding-lines, rules)

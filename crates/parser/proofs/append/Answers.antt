@@ -11,9 +11,7 @@ pub returns-in-Appends : goal.returns-in-Appends
 returns-in-Appends c = search (says-block, rules)
 
 pub returns-in-Silent : goal.returns-in-Silent
-returns-in-Silent c = says_none c.args.options _ _ c.args.emit (search rules) _ _ (search rules)
+returns-in-Silent c = search (says_none, rules)
 
 pub returns-in-Refuses : goal.returns-in-Refuses
-returns-in-Refuses c =
-    says-refusal c.args.options _ _ c.args.emit
-    (search rules) _ _ (search rules)
+returns-in-Refuses c = search (says-refusal, rules)

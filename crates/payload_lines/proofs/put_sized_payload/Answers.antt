@@ -1,10 +1,6 @@
 use Rattle.payload_lines.proofs.Payloads.{sized-payload}
+use borrow.Author.Rules.{rules}
 use Rattle.payload_lines.proofs.put_sized_payload.Goals as goal
 
 pub returns : goal.returns
-returns c =
-    sized-payload _ _ _
-    c.put_actual_size-p.ensures
-    c.put_target-q.ensures
-    c.put_actual_size-s.ensures
-    c.put_actual_size.ensures
+returns c = search (sized-payload, rules)

@@ -1,26 +1,23 @@
 -- `places::fill` meets its contract, by the laws of Filling.
 -- Assumes nothing.
-use Rattle.places.proofs.Filling.{reading-start, reading-last, reading-turn, met-last, met-turn, reading-wrong, reading-out}
+use Rattle.std.proofs.lemmas.Result.{err_from_is_err_and}
+use Rattle.places.proofs.Filling.{reading-out, last-free, last-met, turn, reading-wrong}
 use borrow.Author.Rules.{rules}
 use Rattle.places.proofs.fill.Goals as goal
 
-pub loop-i-init : goal.loop-i-init
-loop-i-init c = search (reading-start, rules)
+pub returns-in_err-count : goal.returns-in_err-count
+returns-in_err-count c =
+    let p = err_from_is_err_and c.from_residual.result c.from_residual.ensures.1 in
+    rw (p.1, p.2) (search (reading-wrong, c.in_err-count.was, rules))
 
-pub returns-then-rec-p : goal.returns-then-rec-p
-returns-then-rec-p c = search (reading-last, rules)
+pub returns-then-met : goal.returns-then-met
+returns-then-met c = search (last-met, c.in_ok-count.was, rules)
 
-pub loop-i-preserved-else-rec-p : goal.loop-i-preserved-else-rec-p
-loop-i-preserved-else-rec-p c = search (reading-turn, rules)
-
-pub returns-then-rec-p-2 : goal.returns-then-rec-p-2
-returns-then-rec-p-2 c = search (met-last, rules)
+pub returns-else-met : goal.returns-else-met
+returns-else-met c = search (last-free, c.in_ok-count.was, rules)
 
 pub loop-i-preserved : goal.loop-i-preserved
-loop-i-preserved c = search (met-turn, rules)
-
-pub returns-in-Wrong : goal.returns-in-Wrong
-returns-in-Wrong c = search (reading-wrong, rules)
+loop-i-preserved c = search (turn, c.in_ok-count.was, rules)
 
 pub returns : goal.returns
 returns c = search (reading-out, rules)

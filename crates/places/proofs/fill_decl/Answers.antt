@@ -1,20 +1,20 @@
 -- `places::fill_decl` meets its contract, by the laws of Filling.
 -- Assumes nothing.
-use Rattle.places.proofs.Filling.{one-filled, one-taken, one-bad, one-keyword, one-wrong}
+use Rattle.places.proofs.Filling.{one-wrong, one-bad, one-filled, one-taken, one-keyword}
 use borrow.Author.Rules.{rules}
 use Rattle.places.proofs.fill_decl.Goals as goal
 
-pub returns-in-Is-fill_behind : goal.returns-in-Is-fill_behind
-returns-in-Is-fill_behind c = search (one-filled, rules)
+pub returns-in_err-decl : goal.returns-in_err-decl
+returns-in_err-decl c = search (one-wrong, c.in_err-decl.was, rules)
 
-pub returns-in-Keyword-fill_behind : goal.returns-in-Keyword-fill_behind
-returns-in-Keyword-fill_behind c = search (one-taken, rules)
+pub returns-in_err-count-in-Ok : goal.returns-in_err-count-in-Ok
+returns-in_err-count-in-Ok c = search (one-bad, c.in_ok-decl.was, c.in_err-count-in-Ok.was, rules)
 
-pub returns-in-Wrong-fill_behind : goal.returns-in-Wrong-fill_behind
-returns-in-Wrong-fill_behind c = search (one-bad, rules)
+pub returns-in-Some : goal.returns-in-Some
+returns-in-Some c = search (one-filled, c.in_ok-decl.was, c.in_ok-count-in-Ok.was, rules)
 
-pub returns-in-Keyword : goal.returns-in-Keyword
-returns-in-Keyword c = search (one-keyword, rules)
+pub returns-in_default : goal.returns-in_default
+returns-in_default c = search (one-taken, c.in_ok-decl.was, c.in_ok-count-in-Ok.was, rules)
 
-pub returns-in-Wrong : goal.returns-in-Wrong
-returns-in-Wrong c = search (one-wrong, rules)
+pub returns-in-Err : goal.returns-in-Err
+returns-in-Err c = search (one-keyword, c.in_ok-decl.was, rules)

@@ -1,23 +1,14 @@
--- `planner::plan_target` meets its contract, by the laws of proofs/Turns.
+-- `planner::plan_target` meets its contract, by the laws of Turns.
 -- Assumes nothing.
-use mathlib.Core.Path.{sym}
-use lib.Seq.{length-take-le}
-use Rattle.planner.proofs.Turns.{filled-start, filled-end, filled-bit, filled-other, size_fits, bits_fit}
+use Rattle.planner.proofs.Turns.{filled-start, filled-bit, filled-other, size_fits, bits_fit}
 use borrow.Author.Rules.{rules}
 use Rattle.planner.proofs.plan_target.Goals as goal
 
 pub loop-k-init : goal.loop-k-init
-loop-k-init c = search (filled-start, rules)
+loop-k-init c = filled-start _ _ _ _ _ _ _ c.args.t.now.fine
 
-pub slice_bounds-conds-end : goal.slice_bounds-conds-end
-slice_bounds-conds-end c = c.conditions-used.ensures.fits
-
-pub slice_bounds-kind_of-end : goal.slice_bounds-kind_of-end
-slice_bounds-kind_of-end c = sym (length-take-le _ _ c.conditions-used.ensures.fits)
-
-pub field_size-requires : goal.field_size-requires
-field_size-requires c =
-    size_fits _ _ _ _ _ _ _ c.loop-k.invariant (search rules) c.field_in-f.ensures
+pub field_size-size-requires : goal.field_size-size-requires
+field_size-size-requires c = size_fits _ _ _ _ _ _ _ c.loop-k.invariant (search rules) c.field_in-f.ensures
 
 pub overflow_add-later : goal.overflow_add-later
 overflow_add-later c = record {
@@ -28,8 +19,8 @@ overflow_add-later c = record {
       c.field_in-f.ensures
       c.is_bit.ensures
       (search rules)
-      c.field_size.ensures
-      c.static_width-width.ensures;
+      c.field_size-size.ensures
+      c.static_bits-width.ensures;
 }
 
 pub loop-k-preserved-then-is_bit : goal.loop-k-preserved-then-is_bit
@@ -39,13 +30,10 @@ loop-k-preserved-then-is_bit c = filled-bit _ _ _ _ _ _ _
     c.field_in-f.ensures
     c.is_bit.ensures
     (search rules)
-    c.field_size.ensures
-    c.static_width-width.ensures
+    c.field_size-size.ensures
+    c.static_bits-width.ensures
     c.conditions-used.ensures
     c.kind_of-kind.ensures
 
 pub loop-k-preserved : goal.loop-k-preserved
 loop-k-preserved c = search (filled-other, rules)
-
-pub returns : goal.returns
-returns c = search (filled-end, rules)

@@ -1,20 +1,22 @@
 -- `ranges::out_of_range` meets its contract, by the laws of Tests.
 -- Assumes nothing.
-use Rattle.ranges.proofs.Tests.{few-index, few-fields, range-end, range-found, range-turn, range-start}
-use borrow.Author.Rules.{rules}
+use Rattle.std.proofs.Common.{rules, ◌∙◌}
+use Rattle.std.proofs.lemmas.Iterator.{YieldsList-from_range}
+use borrow.Author.Tests.{tests}
+use mathlib.Core.Path.{refl}
+use native.Mathlib.Nat.{sub-zero}
+use Rattle.std.proofs.lemmas.Iterator.{serves_from_Range}
+use Rattle.tables.proofs.Walks.{declarations, any_turns}
+use Rattle.ranges.specs.Ranges.{bad_numbers}
+use Rattle.ranges.proofs.Tests.{few-index, few-fields, none-outside}
 use Rattle.ranges.proofs.out_of_range.Goals as goal
 
-pub loop-i-init : goal.loop-i-init
-loop-i-init c = search (range-start, rules)
-
-pub bad_numbers-requires : goal.bad_numbers-requires
-bad_numbers-requires c = search (few-index, few-fields, rules)
-
-pub returns-then-bad_numbers : goal.returns-then-bad_numbers
-returns-then-bad_numbers c = search (range-found, rules)
-
-pub loop-i-preserved : goal.loop-i-preserved
-loop-i-preserved c = search (range-turn, rules)
+pub any-requires-clause-callable : goal.any-requires-clause-callable
+any-requires-clause-callable c =
+    serves_from_Range (λ k q h. search (rules, tests)) (λ k a b. search (few-index, few-fields, rules))
 
 pub returns : goal.returns
-returns c = search (range-end, rules)
+returns c =
+    any_turns (declarations c.args.t.now.rows c.args.t.now.values c.args.t.now.fields) bad_numbers 0 c.args.n _ _ _ c.any.ensures.ran
+    (YieldsList-from_range 0 c.args.n c.args.n refl (sub-zero c.args.n)) refl (λ k b q h. search (rules, tests))
+    ∙ none-outside _

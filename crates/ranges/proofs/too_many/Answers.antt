@@ -1,20 +1,19 @@
 -- `ranges::too_many` meets its contract, by the laws of Tests.
 -- Assumes nothing.
-use Rattle.ranges.proofs.Tests.{many-declarations, many-end, many-found, many-turn, many-start}
-use borrow.Author.Rules.{rules}
+use Rattle.std.proofs.Common.{rules, ◌∙◌, []}
+use Rattle.std.proofs.lemmas.Iterator.{YieldsList-from_range}
+use borrow.Author.Tests.{tests}
+use mathlib.Core.Path.{refl}
+use native.Mathlib.Nat.{sub-zero}
+use Rattle.tables.proofs.Walks.{declarations, any_turns}
+use Rattle.ranges.proofs.Tests.{long, many-declarations, many-fields, many-here}
 use Rattle.ranges.proofs.too_many.Goals as goal
 
-pub returns-then-n-gt32 : goal.returns-then-n-gt32
-returns-then-n-gt32 c = search (many-declarations, many-found, rules)
+pub returns-then-n-gt-MOST_DECLARATIONS : goal.returns-then-n-gt-MOST_DECLARATIONS
+returns-then-n-gt-MOST_DECLARATIONS c = search (many-declarations, rules)
 
-pub loop-i-init : goal.loop-i-init
-loop-i-init c = search (many-start, rules)
-
-pub returns-then-m-gt64 : goal.returns-then-m-gt64
-returns-then-m-gt64 c = search (many-declarations, many-found, rules)
-
-pub loop-i-preserved : goal.loop-i-preserved
-loop-i-preserved c = search (many-turn, rules)
-
-pub returns : goal.returns
-returns c = search (many-end, rules)
+pub returns-else-n-gt-MOST_DECLARATIONS : goal.returns-else-n-gt-MOST_DECLARATIONS
+returns-else-n-gt-MOST_DECLARATIONS c =
+    any_turns (declarations c.args.rows.now [] []) long 0 c.args.n _ _ _ c.any.ensures.ran
+    (YieldsList-from_range 0 c.args.n c.args.n refl (sub-zero c.args.n)) refl (λ k b q h. search (many-here, rules, tests))
+    ∙ search (many-fields, rules)

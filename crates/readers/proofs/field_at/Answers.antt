@@ -1,26 +1,19 @@
--- `readers::field_at` meets its contract, by the laws of Screens.
+-- `readers::field_at` meets its contract: a name of a field is one of its kind or of its condition.
 -- Assumes nothing.
-use Rattle.readers.proofs.Screens.{field-steps, wholes}
-use borrow.Author.Rules.{rules}
+use Rattle.std.proofs.Common.{arith}
+use Rattle.std.proofs.lemmas.Grind.{common_steps}
+use Rattle.definitions.specs.Record.{field_at}
+use Rattle.keywords.proofs.Names.{keyword-append}
 use Rattle.readers.proofs.field_at.Goals as goal
 
-pub returns-in-Is-cond_at : goal.returns-in-Is-cond_at
-returns-in-Is-cond_at c = search (field-steps, wholes, rules)
+pub returns-in_err-desc : goal.returns-in_err-desc
+unfolding field_at
+returns-in_err-desc c = grind (arith, common_steps, keyword-append)
 
-pub returns-in-Keyword-cond_at : goal.returns-in-Keyword-cond_at
-returns-in-Keyword-cond_at c = search (field-steps, wholes, rules)
+pub returns-in_err-cond : goal.returns-in_err-cond
+unfolding field_at
+returns-in_err-cond c = grind (arith, common_steps, keyword-append)
 
-pub returns-in-Wrong-cond_at : goal.returns-in-Wrong-cond_at
-returns-in-Wrong-cond_at c = search (field-steps, wholes, rules)
-
-pub returns-in-Is-cond_at-2 : goal.returns-in-Is-cond_at-2
-returns-in-Is-cond_at-2 c = search (field-steps, wholes, rules)
-
-pub returns-in-Keyword-cond_at-2 : goal.returns-in-Keyword-cond_at-2
-returns-in-Keyword-cond_at-2 c = search (field-steps, wholes, rules)
-
-pub returns-in-Wrong-cond_at-2 : goal.returns-in-Wrong-cond_at-2
-returns-in-Wrong-cond_at-2 c = search (field-steps, wholes, rules)
-
-pub returns-in-Wrong : goal.returns-in-Wrong
-returns-in-Wrong c = search (field-steps, wholes, rules)
+pub returns : goal.returns
+unfolding field_at
+returns c = grind (arith, common_steps, keyword-append)

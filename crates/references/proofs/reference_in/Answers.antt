@@ -1,20 +1,17 @@
 -- `references::reference_in` meets its contract, by the laws of KindNumbers.
 -- Assumes nothing.
-use Rattle.references.proofs.KindNumbers.{refers-low, refers-high, refers-size, refers-count, refers-element}
+use Rattle.references.proofs.KindNumbers.{refers-not, refers-size, refers-count, refers-element}
 use borrow.Author.Rules.{rules}
 use Rattle.references.proofs.reference_in.Goals as goal
 
-pub returns-then-kind-lt3 : goal.returns-then-kind-lt3
-returns-then-kind-lt3 c = search (refers-low, rules)
+pub returns-in-3 : goal.returns-in-3
+returns-in-3 c = search (refers-size, rules)
 
-pub returns-then-kind-gt5 : goal.returns-then-kind-gt5
-returns-then-kind-gt5 c = search (refers-high, rules)
+pub returns-in-4 : goal.returns-in-4
+returns-in-4 c = search (refers-count, rules)
 
-pub returns-then-kind-eq3 : goal.returns-then-kind-eq3
-returns-then-kind-eq3 c = search (refers-size, rules)
+pub returns-in-5 : goal.returns-in-5
+returns-in-5 c = search (refers-element, rules)
 
-pub returns-then-kind-eq4 : goal.returns-then-kind-eq4
-returns-then-kind-eq4 c = search (refers-count, rules)
-
-pub returns : goal.returns
-returns c = search (refers-element, rules)
+pub returns-in_default : goal.returns-in_default
+returns-in_default c = search (refers-not, rules)

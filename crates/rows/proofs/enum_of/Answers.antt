@@ -4,8 +4,8 @@ use Rattle.rows.proofs.Lookup.{enum-none, enum-found}
 use borrow.Author.Rules.{rules}
 use Rattle.rows.proofs.enum_of.Goals as goal
 
-pub returns-in_default : goal.returns-in_default
-returns-in_default c = search (enum-none, enum-found, rules)
+pub returns-in_err-i : goal.returns-in_err-i
+returns-in_err-i c = search (enum-none, rules)
 
 pub returns : goal.returns
-returns c = search (enum-none, enum-found, rules)
+returns c = search (enum-found, rules)

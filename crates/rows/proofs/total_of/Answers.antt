@@ -6,13 +6,13 @@ use borrow.Author.Rules.{rules}
 use Rattle.rows.proofs.total_of.Goals as goal
 
 pub returns-in_default : goal.returns-in_default
-returns-in_default c = search (total-none, total-found, rules)
+returns-in_default c = search (total-none, rules)
 
 pub add_size-requires : goal.add_size-requires
-add_size-requires c = search (two-fit, three-fit, rules)
+add_size-requires c = search (two-fit, rules)
 
 pub add_size-requires-2 : goal.add_size-requires-2
-add_size-requires-2 c = search (two-fit, three-fit, rules)
+add_size-requires-2 c = search (three-fit, rules)
 
 pub returns : goal.returns
-returns c = search (total-none, total-found, rules)
+returns c = search (total-found, rules)

@@ -1,11 +1,9 @@
--- `scope::bad_field_type` meets its contract, by the laws of Unknown.
+-- `scope::bad_field_type` meets its contract.
 -- Assumes nothing.
-use Rattle.scope.proofs.Unknown.{type-none, type-read}
+use borrow.Author.Tests.{tests}
+use Rattle.scope.proofs.Unknown.{type-none}
 use borrow.Author.Rules.{rules}
 use Rattle.scope.proofs.bad_field_type.Goals as goal
 
-pub returns-then-kind_here-lt10 : goal.returns-then-kind_here-lt10
-returns-then-kind_here-lt10 c = search (type-none, rules)
-
-pub returns : goal.returns
-returns c = search (type-read, rules)
+pub returns-else-kind_here-ge-KIND_FIXED_ENUM : goal.returns-else-kind_here-ge-KIND_FIXED_ENUM
+returns-else-kind_here-ge-KIND_FIXED_ENUM c = search (type-none, tests, rules)

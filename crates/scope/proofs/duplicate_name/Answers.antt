@@ -1,17 +1,16 @@
--- `scope::duplicate_name` meets its contract, by the laws of Duplicates.
+-- `scope::duplicate_name` meets its contract.
 -- Assumes nothing.
-use Rattle.scope.proofs.Duplicates.{twice-end, twice_found, twice-turn, twice-start}
-use borrow.Author.Rules.{rules}
+use Rattle.std.proofs.Common.{rules, ◌∙◌}
+use Rattle.std.proofs.lemmas.Iterator.{YieldsList-from_range}
+use borrow.Author.Tests.{tests}
+use mathlib.Core.Path.{refl}
+use native.Mathlib.Nat.{sub-zero}
+use Rattle.std.proofs.lemmas.Iterator.Search.{any_from_yields_List}
+use Rattle.scope.proofs.Duplicates.{is_twice, twice-any}
 use Rattle.scope.proofs.duplicate_name.Goals as goal
 
-pub loop-i-init : goal.loop-i-init
-loop-i-init c = search (twice-start, rules)
-
-pub returns-then-is_named : goal.returns-then-is_named
-returns-then-is_named c = search (twice_found, rules)
-
-pub loop-i-preserved : goal.loop-i-preserved
-loop-i-preserved c = search (twice-turn, rules)
-
 pub returns : goal.returns
-returns c = search (twice-end, rules)
+returns c =
+    any_from_yields_List (is_twice c.args.t.now.source c.args.t.now.rows c.args.n) _ _ _ c.any.ensures.ran
+    (YieldsList-from_range 0 c.args.n c.args.n refl (sub-zero c.args.n)) (λ k b q h. search (rules, tests))
+    ∙ twice-any c.args.t.now.source c.args.t.now.rows c.args.n

@@ -1,14 +1,14 @@
--- `scope::is_named` meets its contract, by the laws of Duplicates.
+-- `scope::is_named` meets its contract.
 -- Assumes nothing.
-use Rattle.scope.proofs.Duplicates.{named_end, named-found, named-turn}
-use borrow.Author.Rules.{rules}
+use Rattle.std.proofs.Common.{rules, [], ◌-◌}
+use Rattle.std.proofs.lemmas.Iterator.{YieldsList-from_range}
+use borrow.Author.Tests.{tests}
+use mathlib.Core.Path.{refl}
+use Rattle.tables.proofs.Walks.{declarations, any_turns}
+use Rattle.scope.specs.Scopes.{has_name}
 use Rattle.scope.proofs.is_named.Goals as goal
 
-pub returns-then-same_name : goal.returns-then-same_name
-returns-then-same_name c = search (named-found, rules)
-
-pub loop-i-preserved : goal.loop-i-preserved
-loop-i-preserved c = search (named-turn, rules)
-
 pub returns : goal.returns
-returns c = search (named_end, rules)
+returns c =
+    any_turns (declarations c.args.t.now.rows [] []) (has_name c.args.t.now.source c.args.name) c.args.first (c.args.n - c.args.first) _ _ _ c.any.ensures.ran
+    (YieldsList-from_range c.args.first c.args.n _ refl refl) refl (λ k b q h. search (rules, tests))

@@ -1,11 +1,11 @@
--- `scope::lacks` meets its contract, by the laws of Unknown.
+-- `scope::lacks` meets its contract.
 -- Assumes nothing.
-use Rattle.scope.proofs.Unknown.{lacks-none, lacks-role}
+use Rattle.scope.proofs.Unknown.{lacks-none, lacks-some}
 use borrow.Author.Rules.{rules}
 use Rattle.scope.proofs.lacks.Goals as goal
 
-pub returns-in-Nothing : goal.returns-in-Nothing
-returns-in-Nothing c = search (lacks-none, rules)
+pub returns-in-None : goal.returns-in-None
+returns-in-None g c ok h = search (lacks-none, rules)
 
-pub returns-in-At : goal.returns-in-At
-returns-in-At c = search (lacks-role, rules)
+pub returns : goal.returns
+returns g c ok h = search (lacks-some, h, rules)

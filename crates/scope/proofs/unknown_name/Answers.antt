@@ -1,21 +1,22 @@
--- `scope::unknown_name` meets its contract, by the laws of Tests and Unknown.
+-- `scope::unknown_name` meets its contract.
 -- Assumes nothing.
+use Rattle.std.proofs.Common.{rules, ◌∙◌}
+use Rattle.std.proofs.lemmas.Iterator.{YieldsList-from_range}
+use borrow.Author.Tests.{tests}
+use mathlib.Core.Path.{refl}
+use native.Mathlib.Nat.{sub-zero}
+use Rattle.std.proofs.lemmas.Iterator.{serves_from_Range}
+use Rattle.std.proofs.lemmas.Iterator.Search.{any_from_yields_List}
 use Rattle.ranges.proofs.Tests.{few-index, few-fields}
-use Rattle.scope.proofs.Unknown.{unknown-end, unknown-found, unknown-turn, unknown-start}
-use borrow.Author.Rules.{rules}
+use Rattle.scope.proofs.Unknown.{is_unknown, unknown-any}
 use Rattle.scope.proofs.unknown_name.Goals as goal
 
-pub loop-i-init : goal.loop-i-init
-loop-i-init c = search (unknown-start, rules)
-
-pub bad_names-requires : goal.bad_names-requires
-bad_names-requires c = search (few-index, few-fields, rules)
-
-pub returns-then-bad_names : goal.returns-then-bad_names
-returns-then-bad_names c = search (unknown-found, rules)
-
-pub loop-i-preserved : goal.loop-i-preserved
-loop-i-preserved c = search (unknown-turn, rules)
+pub any-requires-clause-callable : goal.any-requires-clause-callable
+any-requires-clause-callable c =
+    serves_from_Range (λ k q h. search (rules, tests)) (λ k a b. search (few-index, few-fields, rules))
 
 pub returns : goal.returns
-returns c = search (unknown-end, rules)
+returns c =
+    any_from_yields_List (is_unknown c.args.t.now.source c.args.t.now.rows c.args.t.now.values c.args.t.now.fields) _ _ _ c.any.ensures.ran
+    (YieldsList-from_range 0 c.args.n c.args.n refl (sub-zero c.args.n)) (λ k b q h. search (rules, tests))
+    ∙ unknown-any c.args.t.now.source c.args.t.now.rows c.args.t.now.values c.args.t.now.fields c.args.n

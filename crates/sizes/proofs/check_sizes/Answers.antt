@@ -4,8 +4,8 @@ use Rattle.sizes.proofs.Verdicts.{checked-large, checked-fine}
 use borrow.Author.Rules.{rules}
 use Rattle.sizes.proofs.check_sizes.Goals as goal
 
-pub returns-then-schema : goal.returns-then-schema
-returns-then-schema c = search (checked-large, checked-fine, rules)
+pub returns-in_err-schema : goal.returns-in_err-schema
+returns-in_err-schema c = search (checked-large, checked-fine, rules)
 
 pub returns : goal.returns
 returns c = search (checked-large, checked-fine, rules)

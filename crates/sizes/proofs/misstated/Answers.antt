@@ -1,17 +1,17 @@
--- `sizes::misstated` meets its contract, by the laws of Stated.
+-- `sizes::misstated` meets its contract.
 -- Assumes nothing.
-use Rattle.sizes.proofs.Stated.{rows_start, rows_agree, rows-found, rows-turn}
-use borrow.Author.Rules.{rules}
+use Rattle.std.proofs.Common.{rules}
+use Rattle.std.proofs.lemmas.Iterator.{YieldsList-from_range}
+use borrow.Author.Tests.{tests}
+use mathlib.Core.Path.{refl}
+use native.Mathlib.Nat.{sub-zero}
+use Rattle.tables.proofs.Walks.{any_turns}
+use Rattle.sizes.specs.Answers.{misstated_row, misstated_rows}
+use Rattle.sizes.proofs.Stated.{listed}
 use Rattle.sizes.proofs.misstated.Goals as goal
 
-pub loop-i-init : goal.loop-i-init
-loop-i-init c = (search rules, search (rows_start, rules))
-
-pub returns-then-misstated_here : goal.returns-then-misstated_here
-returns-then-misstated_here c = search (rows_agree, rows-found, rules)
-
-pub loop-i-preserved : goal.loop-i-preserved
-loop-i-preserved c = (search rules, search (rows-turn, rules))
-
 pub returns : goal.returns
-returns c = search (rows_agree, rows-found, rules)
+unfolding misstated_rows
+returns c =
+    any_turns (listed c.args.t.now.rows) misstated_row 0 c.args.n _ _ _
+    c.any.ensures.ran (YieldsList-from_range 0 c.args.n c.args.n refl (sub-zero c.args.n)) refl (λ k b q h. search (rules, tests))

@@ -1,17 +1,17 @@
 -- `sizes::ragged` meets its contract.
 -- Assumes nothing.
-use Rattle.sizes.proofs.WholeBytes.{entries-ragged, entries-whole, entries-found, entries-turn}
-use borrow.Author.Rules.{rules}
+use Rattle.std.proofs.Common.{rules}
+use Rattle.std.proofs.lemmas.Iterator.{YieldsList-from_range}
+use borrow.Author.Tests.{tests}
+use mathlib.Core.Path.{refl}
+use native.Mathlib.Nat.{sub-zero}
+use Rattle.definitions.specs.Refusals.{ragged}
+use Rattle.tables.proofs.Walks.{any_turns}
+use Rattle.sizes.proofs.WholeBytes.{entries, ragged_entry, entry-tested}
 use Rattle.sizes.proofs.ragged.Goals as goal
 
-pub loop-i-init : goal.loop-i-init
-loop-i-init c = (search rules, search (entries-ragged, rules))
-
-pub returns-then-ragged_fields : goal.returns-then-ragged_fields
-returns-then-ragged_fields c = search (entries-whole, entries-found, rules)
-
-pub loop-i-preserved : goal.loop-i-preserved
-loop-i-preserved c = (search rules, search (entries-turn, rules))
-
 pub returns : goal.returns
-returns c = search (entries-whole, entries-found, rules)
+unfolding ragged
+returns c =
+    any_turns (entries c.args.t.now.source c.args.t.now.rows c.args.t.now.values c.args.t.now.fields) (ragged_entry c.args.t.now.source c.args.t.now.rows c.args.t.now.values c.args.t.now.fields) 0 c.args.n _ _ _
+    c.any.ensures.ran (YieldsList-from_range 0 c.args.n c.args.n refl (sub-zero c.args.n)) refl (λ k b q h. search (entry-tested, rules, tests))

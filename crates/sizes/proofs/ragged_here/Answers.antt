@@ -1,11 +1,9 @@
--- `sizes::ragged_here` meets its contract, by the laws of WholeBytes.
+-- `sizes::ragged_here` meets its contract.
 -- Assumes nothing.
-use Rattle.sizes.proofs.WholeBytes.{here-whole, here-read}
+use Rattle.sizes.proofs.WholeBytes.{here-whole}
 use borrow.Author.Rules.{rules}
+use borrow.Author.Tests.{tests}
 use Rattle.sizes.proofs.ragged_here.Goals as goal
 
-pub returns-then-not-is_optional : goal.returns-then-not-is_optional
-returns-then-not-is_optional c = search (here-whole, rules)
-
-pub returns : goal.returns
-returns c = search (here-read, rules)
+pub returns-then-is_none : goal.returns-then-is_none
+returns-then-is_none c = search (here-whole, rules, tests)

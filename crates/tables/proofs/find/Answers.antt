@@ -1,17 +1,16 @@
 -- `tables::find` meets its contract, by the laws of Search.
 -- Assumes nothing.
-use Rattle.tables.proofs.Search.{which-start, which-end, which-found, which-turn}
-use borrow.Author.Rules.{rules}
+use Rattle.std.proofs.Common.{rules}
+use Rattle.std.proofs.lemmas.Iterator.{YieldsList-from_range}
+use Rattle.std.proofs.lemmas.Iterator.Search.{find_from_yields_List}
+use borrow.Author.Tests.{tests}
+use mathlib.Core.Path.{refl}
+use native.Mathlib.Nat.{sub-zero}
+use Rattle.tables.proofs.Search.{is_named, which-first}
 use Rattle.tables.proofs.find.Goals as goal
 
-pub loop-i-init : goal.loop-i-init
-loop-i-init c = (search rules, search (which-start, rules))
-
-pub returns-then-same_name : goal.returns-then-same_name
-returns-then-same_name c = search (which-found, rules)
-
-pub loop-i-preserved : goal.loop-i-preserved
-loop-i-preserved c = (search rules, search (which-turn, rules))
-
 pub returns : goal.returns
-returns c = search (which-end, rules)
+returns c =
+    which-first c.args.t.now.source c.args.t.now.rows c.args.name c.args.n
+    (find_from_yields_List (is_named c.args.t.now.source c.args.t.now.rows c.args.name) _ _ _ c.find.ensures.ran
+    (YieldsList-from_range 0 c.args.n c.args.n refl (sub-zero c.args.n)) (λ k b q h. search (rules, tests)))

@@ -5,7 +5,4 @@ use borrow.Author.Rules.{rules}
 use Rattle.trailing.proofs.field_size.Goals as goal
 
 pub field_size-requires : goal.field_size-requires
-field_size-requires c = search (read-fine, rules)
-
-pub returns : goal.returns
-returns c = search (read-size, rules)
+field_size-requires c = search (read-fine, read-size, c.args.t.now.fine, rules)

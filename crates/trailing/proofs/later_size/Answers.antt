@@ -6,13 +6,13 @@ use borrow.Author.Rules.{rules}
 use Rattle.trailing.proofs.later_size.Goals as goal
 
 pub field_size-size-requires : goal.field_size-size-requires
-field_size-size-requires c = search (read-fine, rules)
+field_size-size-requires c = search (read-fine, read-size, later-plain, later-other, later-array, c.args.t.now.fine, rules)
 
-pub returns-then-is_array_field : goal.returns-then-is_array_field
-returns-then-is_array_field c = search (later-array, read-size, rules)
+pub returns-in-Padded : goal.returns-in-Padded
+returns-in-Padded c = search (read-fine, read-size, later-plain, later-other, later-array, c.args.t.now.fine, rules)
 
 pub returns-in-Plain : goal.returns-in-Plain
-returns-in-Plain c = search (later-plain, read-size, rules)
+returns-in-Plain c = search (read-fine, read-size, later-plain, later-other, later-array, c.args.t.now.fine, rules)
 
-pub returns-else-is_array_field : goal.returns-else-is_array_field
-returns-else-is_array_field c = search (later-other, read-size, rules)
+pub returns-in-Plain-2 : goal.returns-in-Plain-2
+returns-in-Plain-2 c = search (read-fine, read-size, later-plain, later-other, later-array, c.args.t.now.fine, rules)

@@ -1,8 +1,0 @@
--- `tables::get` meets its contract, by the laws of Search.
--- Assumes nothing.
-use Rattle.tables.proofs.Search.{get-out}
-use borrow.Author.Rules.{rules}
-use Rattle.tables.proofs.get.Goals as goal
-
-pub returns : goal.returns
-returns c = search (get-out, rules)

@@ -1,0 +1,6 @@
+use Rattle.text.proofs.Wrotes.{then}
+use borrow.Author.Rules.{rules}
+use Rattle.text.proofs.Writer.name.Goals as goal
+
+pub returns : goal.returns
+returns c = search (then, rules)

@@ -1,5 +1,0 @@
-use Rattle.text.proofs.Puts.{chain}
-use Rattle.text.proofs.put_number.Goals as goal
-
-pub returns : goal.returns
-returns c = search chain
