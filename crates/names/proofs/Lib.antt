@@ -2,3 +2,4 @@ pub mod Keys
 pub mod Bytes
 pub mod Digits
 pub mod Words
+pub mod Same

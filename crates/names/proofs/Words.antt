@@ -1,8 +1,10 @@
 -- A name and a line of digits, by the first byte that is none of theirs (`name_of`, `some_digits`).
 -- Assumes nothing.
-use Rattle.std.specs.Prelude.{Option, Some, None}
+use Rattle.std.specs.Prelude.{Option, Some, None, min}
 use Rattle.std.specs.Char.{is_ascii_digit}
 use Rattle.std.specs.List.{position_from, position}
+use Rattle.std.proofs.Math.Nat.{min_comm, min-le_left, min-le_right}
+use Rattle.std.proofs.lemmas.List.{length-take, take_min, get_or-take}
 use Rattle.std.proofs.lemmas.List.Quantifiers.{position-Some}
 use Rattle.std.proofs.lemmas.Iterator.Adapters.{position_from-zero}
 use Rattle.definitions.specs.Record.{Read, word_of, name_of, part_of, digits_line, some_digits}
@@ -12,10 +14,10 @@ use mathlib.Core.List.{List, [], ◌∷◌}
 use mathlib.Core.Bool.{Bool, true, false, not}
 use mathlib.Core.Path.{◌≡◌, refl, sym, ap, ◌∙◌}
 use native.Mathlib.Omega.{arith}
-use native.Mathlib.Nat.{add-zero}
+use native.Mathlib.Nat.{add-zero, le_trans}
 use borrow.Author.Tests.{eq-eqb, ne_eqb, not-true, not-false}
 use lib.Dec.{eqb}
-use lib.ListN.{drop, length, get_or, drop_of_length-le}
+use lib.ListN.{drop, take, length, get_or, drop_of_length-le}
 use Rattle.definitions.specs.Bytes.{is_digit, is_word}
 use Rattle.names.proofs.Bytes.{digit_is}
 
@@ -37,21 +39,6 @@ digit-newline h e = no-two (sym h ∙ ap is_digit e)
 
 abbrev pub other : ℕ → Bool
 other b = not (is_word b)
-
--- no byte that ends it
-word-none : (s : List ℕ) (start n at i : ℕ) → position_from other i s ≡ None → None ≡ word_of s start n at
-unfolding word_of
-word-none [] start n at i h = refl
-word-none (x ∷ s) start n at i h = by (is_word x) refl (word-none s start (n + 1) (at + 1) (i + 1))
-  where
-    turn : (b : Bool) → is_word x ≡ true → None ≡ word_of s start (n + 1) (at + 1)
-        → ◌≡◌ {A = Read Part} None (elim b [ true ↦ None | false ↦ elim (is_word x) [ true ↦ word_of s start (n + 1) (at + 1) | false ↦ None ] ])
-    turn true e h = refl
-    turn false e h = rw e h
-
-    by : (b : Bool) → is_word x ≡ b → (position_from other (i + 1) s ≡ None → None ≡ word_of s start (n + 1) (at + 1)) → None ≡ word_of (x ∷ s) start n at
-    by false e k = absurd (let q : ◌≡◌ {A = Option ℕ} (Some i) None = rw e at h in cc)
-    by true e k = rw (ne_eqb x 10 (word-newline e), word_of) (turn (eqb n 32) e (k (rw e at h)))
 
 -- the byte that ends it stands at k
 module _ (start : ℕ) where
@@ -94,10 +81,28 @@ pub name-past : (s : List ℕ) (at : ℕ) → length s ≤ at → None ≡ name_
 unfolding name_of
 name-past s at w = rw (drop_of_length-le s w)
 
-pub name-none : (s : List ℕ) (at : ℕ) → position other s ≡ None → None ≡ name_of s at
+-- no byte that ends it among the first 33
+near-word : (s : List ℕ) (start n at i d : ℕ) → n + d ≡ 33 → n ≤ 32 → position_from other i (take d s) ≡ None → None ≡ word_of s start n at
+unfolding word_of
+near-word [] start n at i d q m h = refl
+near-word (x ∷ s) start n at i zero q m h = absurd (omega arith)
+near-word (x ∷ s) start n at i (suc d) q m h = by (is_word x) refl (λ l k. near-word s start (n + 1) (at + 1) (i + 1) d (omega arith) l k)
+  where
+    last : (j : ℕ) → j ≡ 32 - n → is_word x ≡ true → (n + 1 ≤ 32 → None ≡ word_of s start (n + 1) (at + 1))
+        → ◌≡◌ {A = Read Part} None (elim (eqb n 32) [ true ↦ None | false ↦ elim (is_word x) [ true ↦ word_of s start (n + 1) (at + 1) | false ↦ None ] ])
+    last zero z e k = rw (eq-eqb n 32 (omega arith))
+    last (suc j) z e k = rw (ne_eqb n 32 (λ y. absurd (omega arith)), e) (k (omega arith))
+
+    by : (b : Bool) → is_word x ≡ b → (n + 1 ≤ 32 → position_from other (i + 1) (take d s) ≡ None → None ≡ word_of s start (n + 1) (at + 1))
+        → None ≡ word_of (x ∷ s) start n at
+    by false e k = absurd (let q : ◌≡◌ {A = Option ℕ} (Some i) None = rw e at h in cc)
+    by true e k = rw (ne_eqb x 10 (word-newline e), word_of) (last (32 - n) refl e (λ l. k l (rw e at h)))
+
+pub near-none : (s : List ℕ) (at : ℕ) → position other (take 33 s) ≡ None → None ≡ name_of s at
 unfolding name_of
-name-none [] at h = refl
-name-none (x ∷ s) at h = name-by x s at (λ d e. word-none (x ∷ s) at 0 at 0 (sym (position_from-zero other (x ∷ s)) ∙ h))
+near-none [] at h = refl
+near-none (x ∷ s) at h =
+    name-by x s at (λ d e. near-word (x ∷ s) at 0 at 0 33 refl (omega arith) (sym (position_from-zero other (take 33 (x ∷ s))) ∙ h))
 
 -- the first byte that is no letter stands at k
 pub record Ends (s : List ℕ) (k : ℕ) : Type 0 where
@@ -109,6 +114,27 @@ pub ends : (s : List ℕ) (k : ℕ) {r : Option ℕ} → r ≡ position (λ b. n
 ends s k p h =
     let f = position-Some other s k 0 (sym p ∙ h) in
     record { inside = f.0; last = not-true (is_word (get_or s k 0)) f.1; before = λ j l. not-false (is_word (get_or s j 0)) (f.2 j l) }
+
+-- the same of the first 33 bytes, where only they are read
+pub near-is : (s : List ℕ) {m : ℕ} → m ≡ min (length s) 33 → take m s ≡ take 33 s
+near-is s e = ap (λ m. take m s) (e ∙ min_comm (length s) 33) ∙ take_min 33 s
+
+module _ (s : List ℕ) (k : ℕ) {r : Option ℕ} (p : r ≡ position (λ b. not (is_word b)) (take 33 s)) (h : r ≡ Some k) where
+  found : Ends (take 33 s) k
+  found = ends (take 33 s) k p h
+
+  pub near-short : k < 33
+  near-short = let i : k < length (take 33 s) = found.inside in let l : k < min 33 (length s) = rw (length-take 33 s) at i in le_trans l (min-le_left 33 (length s))
+
+  pub near-byte : (j : ℕ) → j ≤ k → get_or (take 33 s) j 0 ≡ get_or s j 0
+  near-byte j l = get_or-take 33 s j 0 (let m = near-short in omega (arith, m))
+
+  pub near-ends : Ends s k
+  near-ends = record {
+    inside = let i : k < length (take 33 s) = found.inside in let l : k < min 33 (length s) = rw (length-take 33 s) at i in le_trans l (min-le_right 33 (length s));
+    last = sym (ap is_word (near-byte k (omega arith))) ∙ found.last;
+    before = λ j l. sym (ap is_word (near-byte j (omega (arith, l)))) ∙ found.before j l;
+  }
 
 module _ (s : List ℕ) (k : ℕ) (at : ℕ) where
   pub name-wrong : Ends s k → (get_or s k 0 ≡ 10 → k ≤ 32 → k ≡ 0) → None ≡ name_of s at

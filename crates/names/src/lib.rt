@@ -3,7 +3,7 @@
 #![tactic(auto)]
 
 ghost use Rattle.std.specs.Prelude.{◌≡◌, drop};
-ghost use Rattle.definitions.specs.Bytes.{is_word, part as part_text};
+ghost use Rattle.definitions.specs.Bytes.{is_word, same, part as part_text};
 ghost use Rattle.definitions.specs.Record.{key_at, number_at, some_digits, is_forbidden, name_of, name_at};
 ghost use Rattle.definitions.specs.Sizes.{same_name, is_payload_id};
 ghost use Rattle.names.specs.Written.{field_name, name_text};
@@ -73,13 +73,14 @@ fn is_forbidden(rec: &[u8], at: usize) -> bool
         || key_at(rec, at, b"chunk").is_some_and(|p| some_digits(rec, p))
 }
 
-// 1 to 32 bytes up to the newline, letters, digits and `_`, no digit first.
+// 1 to 32 bytes up to the newline, letters, digits and `_`, no digit first. Of a longer name no more than 33 bytes are read.
 fn name_of(rec: &[u8], at: usize) -> Read<Part>
     ensures { result ≡ name_of (drop at rec.now) at }
 {
     let rest = rec.get(at..)?;
-    let n = rest.iter().position(|&b| !is_word(b))?;
-    if n == 0 || 32 < n || rest[n] != b'\n' || rest[0].is_ascii_digit() {
+    let near = &rest[..rest.len().min(33)];
+    let n = near.iter().position(|&b| !is_word(b))?;
+    if n == 0 || near[n] != b'\n' || near[0].is_ascii_digit() {
         return None;
     }
     let end = at + n;
@@ -105,11 +106,27 @@ pub fn part(rec: &[u8], p: Part) -> &[u8]
     rec.get(p.start..end).unwrap_or(&[])
 }
 
+// Two texts that are the same: the lengths first, since names mostly differ there, and then up to the first byte that differs. `==` of two slices takes
+// longer for names that begin alike, and every look-up compares such.
+fn same_bytes(a: &[u8], b: &[u8]) -> bool
+    ensures { result ≡ same a.now b.now }
+{
+    if a.len() != b.len() {
+        return false;
+    }
+    for i in 0..a.len() {
+        if a[i] != b[i] {
+            return false;
+        }
+    }
+    true
+}
+
 // Two names that are the same.
 pub fn same_name(rec: &[u8], p: Part, q: Part) -> bool
     ensures { result ≡ same_name rec.now p q }
 {
-    part(rec, p) == part(rec, q)
+    same_bytes(part(rec, p), part(rec, q))
 }
 
 // `_payload_` or `_body_`.

@@ -29,7 +29,9 @@ pub fn field_in(t: &Tables, i: usize, k: usize) -> Field
     tables::field_here(t.values, place_in(t, i, k))
 }
 
-// What field k refers to. The table has numbers (fixed memory), so the kind is matched as one; of a field that refers to nothing no more is read.
+// What field k refers to. The table has numbers (fixed memory), so the kind is matched as one; of a field that refers to nothing no more is read. Most
+// refer to nothing, and each walk asks all of them: a call for each takes longer than the test.
+#[inline(always)]
 fn reference_in(t: &Tables, i: usize, k: usize) -> Option<Reference>
     ensures { result ≡ reference (field_here t.now.values (get_or t.now.fields (i * 64 + k) 0)).desc }
 {

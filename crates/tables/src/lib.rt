@@ -394,6 +394,8 @@ fn stated_at(t: &[u64], at: usize) -> Option<Size>
     stated_of(word(t, at, 7), word(t, at, 8))
 }
 
+// Most callers ask for one part of it, so it is written where it is called: a call fills all of them.
+#[inline(always)]
 fn decl_at(t: &[u64], at: usize) -> Decl
     ensures { result ≡ decl_of t.now at }
 {
@@ -406,6 +408,7 @@ fn decl_at(t: &[u64], at: usize) -> Decl
 }
 
 // The declaration with the index i.
+#[inline(always)]
 pub fn decl_here(rows: &[u64], i: usize) -> Decl
     ensures { result ≡ decl_here rows.now i }
 {
