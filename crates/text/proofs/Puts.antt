@@ -5,11 +5,10 @@ use mathlib.Core.Path.{◌≡◌, refl, sym, ap, ◌∙◌, subst}
 use Prim.Native.Nat.{ℕ, suc, ◌+◌, ◌-◌, ◌≤◌, ◌<◌, ◌^◌, min}
 use native.Mathlib.Decide.{dec_lt}
 use native.Mathlib.Nat.{add-zero}
+use native.Mathlib.Numerals.{add-one}
 use native.Mathlib.Omega.{arith}
-use lib.ListN.{length, length-append, set, take, drop, take-append-drop}
-use lib.Seq.{sets, length-sets, sets-eq, set_out, length-take-le, take_all}
-use borrow.Rule.Slice.PartMut.{put_mid, put_same}
-use Rattle.std.proofs.lemmas.Slice.{put_mid-paste}
+use lib.ListN.{length, length-append, set, get_or, take, drop, take-append-drop}
+use lib.Seq.{sets, length-sets, set_out, take-suc, length-take-le, take_all}
 use Rattle.text.specs.Put.{Put, after}
 
 sets-append : (a b l : List ℕ) (i : ℕ) → sets l i (a ++ b) ≡ sets (sets l i a) (i + length a) b
@@ -58,37 +57,23 @@ like {l} {l₁} {a} {b} {i} {r} e p = subst (λ (x : List ℕ). Put l i x r l₁
 pub kept : {l l₁ a : List ℕ} {i r : ℕ} → Put l i a r l₁ → length l₁ ≡ length l
 kept {l} {l₁} {a} {i} p = ap length p.written ∙ length-sets l i a
 
--- ---- the copy of what is inside
+-- ---- the copy loop
 
-module _ (s l ys : List ℕ) (at start n k : ℕ) (p : start ≡ min at (length l)) (q : n ≡ min (length s) (length l - start)) (m : k ≡ n)
-    (r : ys ≡ take n s) where
-  -- those n bytes
-  laid : put_mid start k l ys ≡ sets l at (take n s)
-  laid = elim (dec_lt at (length l)) [
-    | yes h ↦
-        let e : start ≡ at = omega arith in
-        let c : length (take n s) ≡ n = length-take-le n s (omega arith) in
-        put_mid-paste start k l ys (take n s) n r (sym m) (sym c)
-        ∙ ap (λ (i : ℕ). take i l ++ take n (take n s) ++ drop (i + n) l) e
-        ∙ ap (λ (t : List ℕ). take at l ++ t ++ drop (at + n) l) (take_all n (take n s) (omega (arith, c)))
-        ∙ ap (λ (i : ℕ). take at l ++ take n s ++ drop (at + i) l) (sym c)
-        ∙ sym (sets-eq (take n s) l at (omega (arith, c)))
-    | no h ↦
-        let e : n ≡ 0 = omega arith in
-        ap (put_mid start k l) (r ∙ ap (λ (i : ℕ). take i s) e)
-        ∙ ap (λ (i : ℕ). put_mid start i l []) (m ∙ e)
-        ∙ put_same start 0 l
-        ∙ ap (λ (i : ℕ). sets l at (take i s)) (sym e)
-  ]
+module _ (s l : List ℕ) (at : ℕ) where
+  -- one more byte
+  pub copied : (i : ℕ) {out : List ℕ} → out ≡ sets l at (take i s) → i < length s → set out (at + i) (get_or s i 0) ≡ sets l at (take (i + 1) s)
+  copied i so h =
+      ap (λ (m : List ℕ). set m (at + i) (get_or s i 0)) so
+      ∙ (rw (add-one i, take-suc s i 0 h, sets-append, length-take-le i s (omega arith)))
 
-  -- and so all that are inside
-  pub all-copied : put_mid start k l ys ≡ sets l at s
-  all-copied = laid ∙ elim (dec_lt n (length s)) [
+  -- all bytes that are inside
+  pub all-copied : (i : ℕ) {out : List ℕ} → out ≡ sets l at (take i s) → i ≤ length s → min (length s) (length l - at) ≤ i → out ≡ sets l at s
+  all-copied i so h k = so ∙ elim (dec_lt i (length s)) [
     | yes w ↦
         sym
-        (ap (sets l at) (sym (take-append-drop n s))
-        ∙ sets-append (take n s) (drop n s) l at
-        ∙ ap (λ (j : ℕ). sets (sets l at (take n s)) (at + j) (drop n s)) (length-take-le n s (omega arith))
-        ∙ sets-out (drop n s) (sets l at (take n s)) (at + n) (omega (arith, length-sets l at (take n s))))
-    | no w ↦ ap (sets l at) (take_all n s (omega arith))
+        (ap (sets l at) (sym (take-append-drop i s))
+        ∙ sets-append (take i s) (drop i s) l at
+        ∙ ap (λ (j : ℕ). sets (sets l at (take i s)) (at + j) (drop i s)) (length-take-le i s h)
+        ∙ sets-out (drop i s) (sets l at (take i s)) (at + i) (omega (arith, length-sets l at (take i s))))
+    | no w ↦ ap (sets l at) (take_all i s (omega arith))
   ]

@@ -4,6 +4,7 @@
 #![tactic(auto)]
 
 ghost use Rattle.std.specs.Prelude.{◌≡◌, ◌∷◌, [], ◌++◌, ◌-◌, ◌≤◌, ◌<◌, min};
+ghost use Rattle.std.proofs.lemmas.List.Edits.{sets};
 ghost use Rattle.definitions.specs.Bytes.{digit, digits, decimal, hexadecimal};
 ghost use Rattle.definitions.specs.Blocks.{mask as mask_of};
 ghost use Rattle.text.specs.Put.{Put, after};
@@ -14,6 +15,17 @@ fn moved(at: usize, n: usize) -> usize
     ensures { result ≡ after at n }
 {
     at.max(at.saturating_add(n).min(0x8000_0000_0000_0000))
+}
+
+// The bytes of a piece from `at` on, as many as are inside. One by one: pieces are short, and to copy a slice calls `memmove`, which those who link the
+// library would have to bring.
+fn lay(out: &mut [u8], at: usize, piece: &[u8])
+    ensures { out.new ≡ sets out.old at piece.now }
+{
+    let n = piece.len().min(out.len().saturating_sub(at));
+    for i in 0..n {
+        out[at + i] = piece[i];
+    }
 }
 
 // A buffer that is written, and the place that comes next.
@@ -30,9 +42,7 @@ impl<'a> Writer<'a> {
     pub fn put(&mut self, piece: &[u8])
         ensures { Wrote self.old self.new piece.now }
     {
-        let start = self.at.min(self.out.len());
-        let n = piece.len().min(self.out.len() - start);
-        self.out[start..start + n].copy_from_slice(&piece[..n]);
+        lay(self.out, self.at, piece);
         self.at = moved(self.at, piece.len());
     }
 
