@@ -100,7 +100,19 @@ fn padding_bits(desc: FieldDesc) -> Option<u64>
 {
     match desc {
         FieldDesc::Padding { size } => Some(bits::product(8, size)),
-        _ => None,
+        FieldDesc::Checksum { .. }
+        | FieldDesc::Size { .. }
+        | FieldDesc::Count { .. }
+        | FieldDesc::ElementSize { .. }
+        | FieldDesc::Body
+        | FieldDesc::Payload { .. }
+        | FieldDesc::FixedScalar { .. }
+        | FieldDesc::FixedEnum { .. }
+        | FieldDesc::Reserved { .. }
+        | FieldDesc::Array { .. }
+        | FieldDesc::Scalar { .. }
+        | FieldDesc::Flag { .. }
+        | FieldDesc::Typedef { .. } => None,
     }
 }
 
@@ -132,7 +144,21 @@ pub struct FieldSums {
 fn is_payload(desc: FieldDesc) -> bool
     ensures { result ≡ is_payload desc }
 {
-    matches!(desc, FieldDesc::Body | FieldDesc::Payload { .. })
+    match desc {
+        FieldDesc::Body | FieldDesc::Payload { .. } => true,
+        FieldDesc::Checksum { .. }
+        | FieldDesc::Padding { .. }
+        | FieldDesc::Size { .. }
+        | FieldDesc::Count { .. }
+        | FieldDesc::ElementSize { .. }
+        | FieldDesc::FixedScalar { .. }
+        | FieldDesc::FixedEnum { .. }
+        | FieldDesc::Reserved { .. }
+        | FieldDesc::Array { .. }
+        | FieldDesc::Scalar { .. }
+        | FieldDesc::Flag { .. }
+        | FieldDesc::Typedef { .. } => false,
+    }
 }
 
 fn add_large(large: bool, size: Size, padded: Option<u64>) -> bool

@@ -14,6 +14,7 @@ use arrays::ArrayShape;
 use definitions::{Options, Part};
 use elements::Names;
 use emits::BlockAt;
+use names::WrittenName;
 use text::Writer;
 
 // The name of the elements' type; empty where they have a width.
@@ -65,15 +66,17 @@ pub fn put_block<'a>(
 {
     match block {
         BlockAt::SizedPayload(modifier) => {
-            payload_lines::put_sized_payload(w, options.arrays, word, modifier);
+            let x = names::name(rec, word, WrittenName::Payload);
+            payload_lines::put_sized_payload(w, options.arrays, x, modifier);
         }
-        BlockAt::PayloadUpTo(bytes) => payload_lines::put_payload_up_to(
-            w,
-            options.arrays,
-            word,
-            bytes,
-        ),
-        BlockAt::PayloadToEnd => payload_lines::put_payload_to_end(w, options.arrays, word),
+        BlockAt::PayloadUpTo(bytes) => {
+            let x = names::name(rec, word, WrittenName::Payload);
+            payload_lines::put_payload_up_to(w, options.arrays, x, bytes);
+        }
+        BlockAt::PayloadToEnd => {
+            let x = names::name(rec, word, WrittenName::Payload);
+            payload_lines::put_payload_to_end(w, options.arrays, x);
+        }
         BlockAt::Array {
             padding,
             id,

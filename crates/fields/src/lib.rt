@@ -63,7 +63,18 @@ fn parse_optional_field(t: &Tables, i: usize, cond: Condition, desc: FieldDesc) 
         FieldDesc::Typedef { id, type_id } => {
             optional_typedef(cond, id, type_id, rows::enum_of(t, i, type_id))
         }
-        _ => EmitAt::Refuses(Refusal::UnsupportedOptional),
+        FieldDesc::Checksum { .. }
+        | FieldDesc::Padding { .. }
+        | FieldDesc::Size { .. }
+        | FieldDesc::Count { .. }
+        | FieldDesc::ElementSize { .. }
+        | FieldDesc::Body
+        | FieldDesc::Payload { .. }
+        | FieldDesc::FixedScalar { .. }
+        | FieldDesc::FixedEnum { .. }
+        | FieldDesc::Reserved { .. }
+        | FieldDesc::Array { .. }
+        | FieldDesc::Flag { .. } => EmitAt::Refuses(Refusal::UnsupportedOptional),
     }
 }
 
@@ -99,7 +110,16 @@ fn other_of(endianness: EndiannessValue, desc: FieldDesc) -> Other
             endianness,
         }),
         FieldDesc::Typedef { id, type_id } => Other::Typedef(TypedefParts { id, type_id }),
-        _ => Other::Silent,
+        FieldDesc::Checksum { .. }
+        | FieldDesc::Padding { .. }
+        | FieldDesc::Size { .. }
+        | FieldDesc::Count { .. }
+        | FieldDesc::ElementSize { .. }
+        | FieldDesc::FixedScalar { .. }
+        | FieldDesc::FixedEnum { .. }
+        | FieldDesc::Reserved { .. }
+        | FieldDesc::Scalar { .. }
+        | FieldDesc::Flag { .. } => Other::Silent,
     }
 }
 

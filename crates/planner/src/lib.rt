@@ -28,11 +28,20 @@ fn is_bit(t: &Tables, i: usize, f: Field) -> bool
 fn aligned(f: Field) -> bool
     ensures { result ≡ aligned f }
 {
-    f.cond.is_none()
-        && matches!(
-            f.desc,
-            FieldDesc::Body | FieldDesc::Payload { .. } | FieldDesc::Typedef { .. }
-        )
+    match f.desc {
+        FieldDesc::Body | FieldDesc::Payload { .. } | FieldDesc::Typedef { .. } => f.cond.is_none(),
+        FieldDesc::Checksum { .. }
+        | FieldDesc::Padding { .. }
+        | FieldDesc::Size { .. }
+        | FieldDesc::Count { .. }
+        | FieldDesc::ElementSize { .. }
+        | FieldDesc::FixedScalar { .. }
+        | FieldDesc::FixedEnum { .. }
+        | FieldDesc::Reserved { .. }
+        | FieldDesc::Array { .. }
+        | FieldDesc::Scalar { .. }
+        | FieldDesc::Flag { .. } => false,
+    }
 }
 
 // The plan of the fields; behind them it has entries that no field has.

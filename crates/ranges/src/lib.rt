@@ -81,7 +81,11 @@ fn bad_number(desc: FieldDesc) -> bool
             size,
             ..
         } => bad_array(width, size_modifier, size),
-        _ => false,
+        FieldDesc::Checksum { .. }
+        | FieldDesc::Body
+        | FieldDesc::FixedEnum { .. }
+        | FieldDesc::Flag { .. }
+        | FieldDesc::Typedef { .. } => false,
     }
 }
 

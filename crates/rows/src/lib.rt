@@ -111,6 +111,10 @@ pub fn is_bitfield(t: &Tables, n: usize, desc: FieldDesc) -> bool
         | FieldDesc::Scalar { .. }
         | FieldDesc::Flag { .. } => true,
         FieldDesc::Typedef { type_id, .. } => enum_of(t, n, type_id).is_some(),
-        _ => false,
+        FieldDesc::Checksum { .. }
+        | FieldDesc::Padding { .. }
+        | FieldDesc::Body
+        | FieldDesc::Payload { .. }
+        | FieldDesc::Array { .. } => false,
     }
 }

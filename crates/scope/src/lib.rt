@@ -67,7 +67,18 @@ fn bad_type(t: &Tables, n: usize, desc: FieldDesc) -> bool
             ..
         }
         | FieldDesc::Typedef { type_id, .. } => lacks_any(t, n, type_id),
-        _ => false,
+        FieldDesc::Checksum { .. }
+        | FieldDesc::Padding { .. }
+        | FieldDesc::Size { .. }
+        | FieldDesc::Count { .. }
+        | FieldDesc::ElementSize { .. }
+        | FieldDesc::Body
+        | FieldDesc::Payload { .. }
+        | FieldDesc::FixedScalar { .. }
+        | FieldDesc::Reserved { .. }
+        | FieldDesc::Array { .. }
+        | FieldDesc::Scalar { .. }
+        | FieldDesc::Flag { .. } => false,
     }
 }
 

@@ -85,7 +85,17 @@ fn ragged_desc(t: &Tables, i: usize, optional: bool, desc: FieldDesc) -> bool
         FieldDesc::Typedef { type_id, .. } => {
             optional && ragged_enum(rows::enum_of(t, i, type_id))
         }
-        _ => false,
+        FieldDesc::Checksum { .. }
+        | FieldDesc::Padding { .. }
+        | FieldDesc::Size { .. }
+        | FieldDesc::Count { .. }
+        | FieldDesc::ElementSize { .. }
+        | FieldDesc::Body
+        | FieldDesc::Payload { .. }
+        | FieldDesc::FixedScalar { .. }
+        | FieldDesc::FixedEnum { .. }
+        | FieldDesc::Reserved { .. }
+        | FieldDesc::Flag { .. } => false,
     }
 }
 

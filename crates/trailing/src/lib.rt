@@ -36,7 +36,22 @@ fn field_size(t: &Target, k: usize) -> Size
 fn is_array_field(f: Field) -> bool
     ensures { result ≡ is_array_field f }
 {
-    f.cond.is_none() && matches!(f.desc, FieldDesc::Array { .. })
+    match f.desc {
+        FieldDesc::Array { .. } => f.cond.is_none(),
+        FieldDesc::Checksum { .. }
+        | FieldDesc::Padding { .. }
+        | FieldDesc::Size { .. }
+        | FieldDesc::Count { .. }
+        | FieldDesc::ElementSize { .. }
+        | FieldDesc::Body
+        | FieldDesc::Payload { .. }
+        | FieldDesc::FixedScalar { .. }
+        | FieldDesc::FixedEnum { .. }
+        | FieldDesc::Reserved { .. }
+        | FieldDesc::Scalar { .. }
+        | FieldDesc::Flag { .. }
+        | FieldDesc::Typedef { .. } => false,
+    }
 }
 
 // What field k counts behind a payload or a typedef.

@@ -6,15 +6,15 @@ use Rattle.field_lines.proofs.put_block.Goals as goal
 
 pub returns-in-SizedPayload : goal.returns-in-SizedPayload
 unfolding block_of
-returns-in-SizedPayload c = λ bits. rw (c.in-SizedPayload.is, block_of) c.put_sized_payload.ensures
+returns-in-SizedPayload c = λ bits. rw (c.in-SizedPayload.is, block_of, sym c.name-x.ensures) c.put_sized_payload.ensures
 
 pub returns-in-PayloadUpTo : goal.returns-in-PayloadUpTo
 unfolding block_of
-returns-in-PayloadUpTo c = λ bits. rw (c.in-PayloadUpTo.is, block_of) c.put_payload_up_to.ensures
+returns-in-PayloadUpTo c = λ bits. rw (c.in-PayloadUpTo.is, block_of, sym c.name-x-in-PayloadUpTo.ensures) c.put_payload_up_to.ensures
 
 pub returns-in-PayloadToEnd : goal.returns-in-PayloadToEnd
 unfolding block_of
-returns-in-PayloadToEnd c = λ bits. rw (c.in-PayloadToEnd.is, block_of) c.put_payload_to_end.ensures
+returns-in-PayloadToEnd c = λ bits. rw (c.in-PayloadToEnd.is, block_of, sym c.name-x-in-PayloadToEnd.ensures) c.put_payload_to_end.ensures
 
 pub returns-in-Array : goal.returns-in-Array
 unfolding block_of
